@@ -160,7 +160,7 @@ within_limit before line end accepted =
 -- so lines of which none is refused are not too many bytes
 accepted_within : (before lines : List (List ℕ)) → (outcome_from script_lines before lines).verdict ≡ None
     → offset before ≤ 67108864 → offset (before ++ lines) ≤ 67108864
-accepted_within before [] none le = subst (λ l. offset l ≤ 67108864) (sym (append-nil before)) le
+accepted_within before [] none le = rw append-nil le
 accepted_within before (line ∷ lines) none le =
     let end = offset before + length line + 1 in
     let first = line_outcome script_lines before line end in
@@ -168,8 +168,7 @@ accepted_within before (line ∷ lines) none le =
     let within = within_limit before line end both.0 in
     let longer = sum_by-append (λ (l : List ℕ). length l + 1) before (line ∷ []) in
     let last = sum_by-cons (λ (l : List ℕ). length l + 1) line [] in
-    subst (λ l. offset l ≤ 67108864) (append_assoc before (line ∷ []) lines)
-    (accepted_within (before ++ line ∷ []) lines both.1 (omega (arith, within, longer, last)))
+    rw append_assoc at (accepted_within (before ++ line ∷ []) lines both.1 (omega (arith, within, longer, last)))
 
 -- two inputs have the same line refused
 abbrev SameRefusal : Outcome NoLine → Outcome NoLine → Type 0

@@ -57,7 +57,7 @@ module _ (seed companions : ℕ) where
       record {
         front = text given ++ part.front;
         of = prefix_trans (text given ++ part.front) (text (suc given)) (text lines)
-            (part.of.0, ap (λ (l : List ℕ). text given ++ l) rest ∙ sym (append_assoc (text given) part.front part.of.0))
+            (part.of.0, ap (λ l. text given ++ l) rest ∙ sym (append_assoc (text given) part.front part.of.0))
             (text-begins (suc given) lines (omega (arith, fewer)));
         grew = appends_more start held holds (text given) part.front grew part.grew;
       }
