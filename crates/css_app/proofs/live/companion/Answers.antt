@@ -19,9 +19,6 @@ returns-in-Err g c =
     }
 
 -- the followers lacked memory
-pub returns-in_default-clause-ran : goal.returns-in_default-clause-ran
-returns-in_default-clause-ran g c = inl ((refl, refl, c.prepare.ensures.same_seen), tt)
-
 -- the run
 pub returns : goal.returns
 returns g c =

@@ -21,9 +21,6 @@ returns-in-Err g c =
 pub returns-in_default-clause-ran : goal.returns-in_default-clause-ran
 returns-in_default-clause-ran g c = inl (((refl, refl, c.prepare.ensures.same_seen), refl, refl), tt)
 
-pub returns-in_default-child_words-clause-ran : goal.returns-in_default-child_words-clause-ran
-returns-in_default-child_words-clause-ran g c = inl (((refl, refl, c.prepare.ensures.same_seen), refl, refl), tt)
-
 -- the child was not started
 pub returns-in-Err-Failed-clause-ran : goal.returns-in-Err-Failed-clause-ran
 returns-in-Err-Failed-clause-ran g c =
@@ -47,9 +44,6 @@ returns-in-Err-Memory-clause-ran g c =
       gives = c.in-Ok.ensures.value;
       beside = inl (((refl, refl, c.prepare.ensures.same_seen), start.told, start.err), tt);
     })
-
-pub returns-in-Err-Memory-clause-complete : goal.returns-in-Err-Memory-clause-complete
-returns-in-Err-Memory-clause-complete g c bytes script is ok read wrote called spawned = inl refl
 
 -- the child was started
 pub returns : goal.returns
