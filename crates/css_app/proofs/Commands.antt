@@ -116,13 +116,9 @@ lacks (Err words.Memory) used = (refl, refl)
 pub does_asked : (given : Result Command WordsFault) (asked : Result Asked WordsFault) (used : Uses) (result : Status)
     → GivesBy asked_of words.Memory given asked → Does (asked_in given) used result
     → (expected : Result Asked WordsFault) → asked ≡ expected → Does expected used result
-does_asked (Ok command) asked used result is did expected e =
-    subst (λ (a : Result Asked WordsFault). Does a used result) (sym is ∙ e) did
-does_asked (Err fault) asked used result (inl is) did expected e =
-    subst (λ (a : Result Asked WordsFault). Does a used result) (sym is ∙ e) did
-does_asked (Err words.Memory) asked used result (inr is) did expected e =
-    subst (λ (u : Uses). Does expected u result) (sym did.0)
-    (subst (Does expected (unused used)) (sym did.1) (lacks expected used))
+does_asked (Ok command) asked used result is did expected e = rw (← e, is) did
+does_asked (Err fault) asked used result (inl is) did expected e = rw (← e, is) did
+does_asked (Err words.Memory) asked used result (inr is) did expected e = rw (did.0, did.1) (lacks expected used)
 does_asked (Err words.Usage) asked used result (inr is) did expected e = absurd (cc)
 
 -- so it is of devices that aren't used

@@ -11,15 +11,10 @@ use Rattle.css_outside.specs.Faults.{CountsCall}
 use Rattle.css_outside.specs.Outsides.{Counts, with_entries}
 use Rattle.css_outside.specs.declared.fault.OutFault.{OutFault}
 use Rattle.css_outside.specs.declared.fault.OutFault.TheVariants as fault
-use Rattle.css_follow.specs.Following.{Plan}
-use Rattle.css_follow.specs.Listening.{Listener, all_plans, all_seen}
 use Rattle.css_tv.specs.declared.event.TvOut.{TvOut}
 use Rattle.css_tv.specs.declared.event.TvOut.TheVariants as out
 use Rattle.css_tv.specs.declared.fault.TvFault.{TvFault}
 use Rattle.css_tv.specs.declared.fault.TvFault.TheVariants as tv_fault
-use Rattle.css_drive.specs.CompanionDue as companion
-use Rattle.css_drive.specs.CompanionDue.{IsProperRun}
-use Rattle.css_drive.specs.CompanionRun.{Ran}
 use Rattle.css_drive.specs.Ends.{CountsDialFaults, CountsNetFault, CountsWriteFault, MayEnd}
 use Rattle.css_drive.specs.Proper.{Due, Now, TakeDatagram, Ends}
 use Rattle.css_drive.specs.TvDue.{TvRun, due, due_at, from_end, from_hang_ups, from_texts, unless_owed, unless_refused}
@@ -36,12 +31,10 @@ use Rattle.css_watch.specs.declared.ending.Watched.{Watched}
 use Rattle.css_watch.specs.declared.ending.Watched.TheVariants as watched
 use Rattle.css_replay.specs.declared.status.Status.{Status}
 use Rattle.css_replay.specs.declared.status.Status.TheVariants as status
-use Rattle.css_replay.specs.Devices.{SinkUse}
 use Rattle.css_replay.specs.Ended.{CountsWrites, HasNotFailed}
 use Rattle.css_replay.proofs.OverLines.{EndsLines}
 use Rattle.css_app.specs.Ended.{Writes}
-use Rattle.css_app.specs.Devices.{FollowersUse, OutsideUse}
-use Rattle.css_app.specs.Live.{EndsAsDue, IsMadeAsDue, MakesRun, TellsFaults, TellsOverLines, driven_status}
+use Rattle.css_app.specs.Live.{EndsAsDue, IsMadeAsDue, TellsFaults, TellsOverLines, driven_status}
 use Rattle.css_app.specs.Pairs.{PairsAsDue, child_status, with_child}
 use Rattle.css_app.specs.Watches.{EndsAtLastUnlessMemory, watched_status}
 
@@ -87,43 +80,18 @@ unwritten _ count none = refl
 
 -- ---- where no device failed
 -- an end at which no device failed is one that was due, or memory ran out
-pub as_due : {w w' c c' : ℕ} (proper : History → Type 0) (due_of : History → Due) (before now : Option History)
+pub as_due : {w w' c c' : ℕ} {proper : History → Type 0} {due_of : History → Due} {before now : Option History}
     (history : History) (ended : Driven) → now ≡ with_entries history before → proper history
     → MayEnd (due_of history) ended → CountsWriteFault w w' ended → CountsNetFault c c' ended
     → HasNotFailed w w' → HasNotFailed c c'
     → (driven_status ended ≡ status.Memory) ⊎ IsMadeAsDue proper due_of before now (driven_status ended)
-as_due proper due_of before now history driven.WriteFault told is_proper ends wrote called nw nc =
+as_due history driven.WriteFault told is_proper ends wrote called nw nc =
     absurd (omega (arith, wrote.risen nw.below, nw.same))
-as_due proper due_of before now history (driven.NetFault failure) told is_proper ends wrote called nw nc =
+as_due history (driven.NetFault failure) told is_proper ends wrote called nw nc =
     absurd (omega (arith, called.risen nc.below, nc.same))
-as_due proper due_of before now history driven.Memory told is_proper ends wrote called nw nc = inl refl
-as_due proper due_of before now history ended told is_proper ends wrote called nw nc =
+as_due history driven.Memory told is_proper ends wrote called nw nc = inl refl
+as_due history ended told is_proper ends wrote called nw nc =
     inr (record { history = history; told = told; is_proper = is_proper; ended = ended; is_due = ends; tells = refl })
-
--- a companion's run was made
-pub made_run : {config : DriveConfig} {plans : List Plan} {sink : SinkUse} {outside : OutsideUse}
-    {followers : FollowersUse} (began followed : List Listener) (ended : Driven) → all_plans began ≡ plans
-    → all_seen began ≡ followers.heard_old → all_seen followed ≡ followers.heard_new
-    → Ran config outside.told_old outside.told_new sink.holds_old sink.holds_new began followed ended
-    → MakesRun config plans sink outside followers (driven_status ended)
-made_run began followed ended planned before heard ran = record {
-  began = began;
-  followed = followed;
-  planned = planned;
-  before = before;
-  heard = heard;
-  ended = ended;
-  ran = ran;
-  tells = refl;
-}
-
--- it ended as its calls say
-pub run_as_due : {w w' c c' : ℕ} {config : DriveConfig} {before now : Option History} {held holds : Option (List ℕ)}
-    {followers followed : List Listener} (ended : Driven) → Ran config before now held holds followers followed ended
-    → CountsWriteFault w w' ended → CountsNetFault c c' ended → HasNotFailed w w' → HasNotFailed c c'
-    → EndsAsDue config before now (driven_status ended)
-run_as_due {config = config} ended ran =
-    as_due (IsProperRun config) (companion.due config) _ _ ran.history ended ran.told ran.proper ran.ends
 
 -- no write was to be made
 pub no_write : HasNotFailed 0 0

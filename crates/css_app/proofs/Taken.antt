@@ -26,7 +26,7 @@ use Rattle.css_schedule.specs.declared.line.ScriptLine.{ScriptLine}
 use Rattle.css_replay.specs.declared.status.Status.{Status}
 use Rattle.css_replay.specs.declared.status.Status.TheVariants as status
 use Rattle.css_replay.specs.Ended.{CountsReads, HasNotFailed, IsNoUsage, stop_status}
-use Rattle.css_replay.proofs.OverLines.{EndsLines, IsOfLine, line_ends, stop_ends}
+use Rattle.css_replay.proofs.OverLines.{IsOfLine, line_ends, stop_ends}
 use Rattle.css_app.specs.declared.inputs.NoLine.{NoLine}
 use Rattle.css_app.specs.declared.inputs.ScriptLines.{ScriptLines}
 use Rattle.css_app.specs.Ended.{line_refused}
@@ -47,28 +47,26 @@ pub record TookNone {T E : Type 0} (reading : List ℕ → Result T E) (left : O
 
 module _ {T E Bad : Type 0} (reading : List ℕ → Result T E) (fault : Bad → E) (refused : Bad → Status)
     (of_line : (bad : Bad) → IsOfLine (refused bad)) where
-  none_ends : {r r' w : ℕ} (left : Option (List ℕ)) (result : Status) → GivesNone reading fault refused left result
-      → CountsReads r r' result → EndsLines r r' w w result
-  none_ends left status.ReadFault none counted =
-      stop_ends {Cause = NoLine} line_refused (λ line why. tt) stops.ReadFault counted refl
-  none_ends left status.Memory none counted = line_ends status.Memory tt counted refl
-  none_ends left _ none counted = line_ends _ (subst IsOfLine (sym none.1) (of_line none.0)) counted refl
-
-  none_lacks : {r r' : ℕ} (left : Option (List ℕ)) (result : Status) → GivesNone reading fault refused left result
-      → CountsReads r r' result → (bytes : List ℕ) (value : T) → left ≡ Some bytes → reading bytes ≡ Ok value
-      → HasNotFailed r r' → result ≡ status.Memory
-  none_lacks left status.Memory none counted bytes value is ok n = refl
-  none_lacks left status.ReadFault none counted bytes value is ok n =
-      absurd (omega (arith, counted.risen n.below, n.same))
-  none_lacks left _ none counted bytes value is ok n = absurd (let bad = none.2 bytes is in cc)
-
   pub took_none : {r r' : ℕ} (left : Option (List ℕ)) (result : Status) → GivesNone reading fault refused left result
       → CountsReads r r' result → TookNone reading left r r' result
-  took_none left result none counted = record {
-    no_usage = (none_ends {w = 0} left result none counted).no_usage;
-    tells = λ writes. tells_lines (none_ends left result none counted);
-    lacks = none_lacks left result none counted;
+  took_none left status.ReadFault none counted = record {
+    no_usage = tt;
+    tells = λ writes. tells_lines
+        (stop_ends {Cause = NoLine} line_refused (λ line why. tt) stops.ReadFault counted refl);
+    lacks = λ bytes value is ok n. absurd (omega (arith, counted.risen n.below, n.same));
   }
+  took_none left status.Memory none counted = record {
+    no_usage = tt;
+    tells = λ writes. tells_lines (line_ends status.Memory tt counted refl);
+    lacks = λ bytes value is ok n. refl;
+  }
+  took_none left result none counted =
+      let of = subst IsOfLine (sym none.1) (of_line none.0) in
+      record {
+        no_usage = (line_ends {w = 0} result of counted refl).no_usage;
+        tells = λ writes. tells_lines (line_ends result of counted refl);
+        lacks = λ bytes value is ok n. absurd (let bad = none.2 bytes is in cc);
+      }
 
   -- the run over its lines stopped
   pub none_at : {Cause : Type 0} (meaning : Meaning Cause) (bad : ℕ → Refusal Cause → Bad)
@@ -162,7 +160,7 @@ within_limit before line end accepted =
 -- so lines of which none is refused are not too many bytes
 accepted_within : (before lines : List (List ℕ)) → (outcome_from script_lines before lines).verdict ≡ None
     → offset before ≤ 67108864 → offset (before ++ lines) ≤ 67108864
-accepted_within before [] none le = subst (λ l. offset l ≤ 67108864) (sym (append-nil before)) le
+accepted_within before [] none le = rw append-nil le
 accepted_within before (line ∷ lines) none le =
     let end = offset before + length line + 1 in
     let first = line_outcome script_lines before line end in
@@ -170,8 +168,7 @@ accepted_within before (line ∷ lines) none le =
     let within = within_limit before line end both.0 in
     let longer = sum_by-append (λ (l : List ℕ). length l + 1) before (line ∷ []) in
     let last = sum_by-cons (λ (l : List ℕ). length l + 1) line [] in
-    subst (λ l. offset l ≤ 67108864) (append_assoc before (line ∷ []) lines)
-    (accepted_within (before ++ line ∷ []) lines both.1 (omega (arith, within, longer, last)))
+    rw append_assoc at (accepted_within (before ++ line ∷ []) lines both.1 (omega (arith, within, longer, last)))
 
 -- two inputs have the same line refused
 abbrev SameRefusal : Outcome NoLine → Outcome NoLine → Type 0

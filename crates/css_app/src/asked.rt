@@ -147,5 +147,8 @@ pub(crate) fn companions_in(words: GeneratorWords) -> u32
     ensures value { result ≡ unwrap_or words.companions 1 }
     ensures drawn { CanBeDrawn result words.lines }
 {
-    words.companions.unwrap_or(1)
+    match words.companions {
+        Some(companions) => companions,
+        None => 1,
+    }
 }

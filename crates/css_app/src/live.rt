@@ -19,7 +19,6 @@ ghost use Rattle.css_app.specs.Watches.{EndsAtLastUnlessMemory, MakesWatch, watc
 
 use crate::inputs::{take_script, take_sheet};
 use css_drive::{DriveConfig, Driven, Listens, TvDrive, drive_companion, drive_tv};
-use css_num::Memory;
 use css_outside::{Outside, Sink, Source};
 use css_record::drive_record;
 use css_replay::Status;
@@ -82,12 +81,11 @@ pub fn companion<S: Source, K: Sink, O: Outside, F: Listens>(
         Ok(sheet) => sheet,
         Err(status) => return status,
     };
-    let prepared = followers.prepare(&sheet);
+    let Ok(()) = followers.prepare(&sheet) else {
+        return Status::Memory;
+    };
     drop(sheet);
-    match prepared {
-        Ok(()) => status_of(drive_companion(alloc, config, sink, outside, followers)),
-        Err(Memory) => Status::Memory,
-    }
+    status_of(drive_companion(alloc, config, sink, outside, followers))
 }
 
 /// Makes a companion's run, and writes its record to the sink in place of the reports: what the devices told, line by

@@ -1,7 +1,6 @@
 //! The command `pair`, and the television that it starts as a child.
 ghost use Rattle.std.specs.Prelude.{◌≡◌, ◌++◌, ◌∷◌, [], pos, List, ℕ, IfOk, OnOk, Ok, Some};
 ghost use Rattle.css_drive.specs.Configs.{IsWritable};
-ghost use Rattle.css_follow.specs.Listening.{all_plans, all_seen};
 ghost use Rattle.css_schedule.specs.declared.line.ScriptLine.{ScriptLine};
 ghost use Rattle.css_replay.specs.Devices.{sink_use, source_use};
 ghost use Rattle.css_replay.specs.Ended.{HasNotFailed, IsNoUsage};
@@ -123,21 +122,6 @@ fn with_child(companion: Status, finished: Result<i32, OutFault>) -> Status
     }
 }
 
-// What the child is started with; the followers are handed the empty sheet.
-fn prepare<F: Listens>(
-    alloc: Global,
-    child: &Child,
-    limit: Limit,
-    followers: &mut F,
-) -> Result<Vec<Text>, Memory>
-    ensures words { IfOk result (λ words. words.items ≡ pairs.child_words child.now limit) }
-    ensures heard { all_seen (F.heard followers.new) ≡ all_seen (F.heard followers.old) }
-    ensures plans { OnOk result (all_plans (F.heard followers.new) ≡ F.takes followers.old pairs.empty_sheet) }
-{
-    followers.prepare(&Sheet::empty(alloc))?;
-    child_words(alloc, child, limit)
-}
-
 /// Reads a script from the source, to its end, starts the television `tv` with it as a child, and is a companion beside
 /// it, with an empty cue sheet, that dials it. A child that was started is waited for, however the companion's run
 /// ends.
@@ -182,7 +166,10 @@ pub fn pair<S: Source, K: Sink, O: Outside, P: Spawner, F: Listens>(
         Ok(script) => script,
         Err(status) => return status,
     };
-    let Ok(words) = prepare(alloc, child, config.limit, followers) else {
+    let Ok(()) = followers.prepare(&Sheet::empty(alloc)) else {
+        return Status::Memory;
+    };
+    let Ok(words) = child_words(alloc, child, config.limit) else {
         return Status::Memory;
     };
     match spawner.start(&words, &script) {

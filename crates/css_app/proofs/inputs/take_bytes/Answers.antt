@@ -17,18 +17,12 @@ pieces-preserved g c = record {
   counted = c.in-Ok.ensures.counted ∙ c.pieces.invariant.counted;
 }
 
-pub returns-in-Err-clause-counted : goal.returns-in-Err-clause-counted
-returns-in-Err-clause-counted g c = rw c.pieces.invariant.counted at c.in-Err.ensures.counted
-
 pub returns-then-count-eq0-clause-value : goal.returns-then-count-eq0-clause-value
 returns-then-count-eq0-clause-value g c = record {
   took = consumes_nothing _ _ _ c.pieces.text.items c.read.new.into _ c.pieces.invariant.took c.in-Ok.ensures.bytes.0
       c.if-count-eq0.true;
   reached = inl (c.in-Ok.ensures.bytes.1 c.if-count-eq0.true (omega arith));
 }
-
-pub returns-then-count-eq0-clause-counted : goal.returns-then-count-eq0-clause-counted
-returns-then-count-eq0-clause-counted g c = c.in-Ok.ensures.counted ∙ c.pieces.invariant.counted
 
 pub returns-clause-value : goal.returns-clause-value
 returns-clause-value g c = record {

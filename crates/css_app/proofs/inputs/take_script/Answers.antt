@@ -9,9 +9,6 @@ use Rattle.css_app.proofs.inputs.take_script.Goals as goal
 pub returns-in-Ok-drive-clause-value : goal.returns-in-Ok-drive-clause-value
 returns-in-Ok-drive-clause-value g c = gives-script _ _ _ _ c.drive.new.lines c.in-Ok-drive.ensures.done
 
-pub returns-in-Ok-drive-clause-range : goal.returns-in-Ok-drive-clause-range
-returns-in-Ok-drive-clause-range g c = c.in-Ok-drive.ensures.done.stood.each
-
 pub returns-clause-value : goal.returns-clause-value
 returns-clause-value g c =
     let run = c.in-Err.ensures in

@@ -2,7 +2,7 @@ use Rattle.std.proofs.Common.{refl, inl, inr}
 use Rattle.css_follow.specs.Sheets.{sheet_in}
 use Rattle.css_follow.specs.declared.fault.SheetFault.TheVariants.{Line}
 use Rattle.css_replay.specs.declared.status.Status.TheVariants.{BadSheet}
-use Rattle.css_app.proofs.LiveEnds.{driven_tells, made_run, run_as_due}
+use Rattle.css_app.proofs.LiveEnds.{as_due, driven_tells}
 use Rattle.css_app.proofs.Taken.{took_none}
 use Rattle.css_app.proofs.live.companion.Goals as goal
 
@@ -19,12 +19,9 @@ returns-in-Err g c =
     }
 
 -- the followers lacked memory
-pub returns-in-Err-prepared-clause-ran : goal.returns-in-Err-prepared-clause-ran
-returns-in-Err-prepared-clause-ran g c = inl ((refl, refl, c.prepare-prepared.ensures.same_seen), tt)
-
 -- the run
-pub returns-in-Ok-prepared : goal.returns-in-Ok-prepared
-returns-in-Ok-prepared g c =
+pub returns : goal.returns
+returns g c =
     let run = c.drive_companion.ensures in
     let ended = c.drive_companion.result in
     rw c.status_of.ensures.value
@@ -32,10 +29,19 @@ returns-in-Ok-prepared g c =
       ran = inr (record {
         sheet = c.in-Ok.sheet;
         gives = c.in-Ok.ensures.value;
-        makes = made_run _ _ ended c.in-Ok-prepared.ensures.as_sheet c.prepare-prepared.ensures.same_seen refl
-            run.ran;
+        makes = record {
+          began = _;
+          followed = _;
+          planned = c.in-Ok-prepare.ensures.as_sheet;
+          before = c.prepare.ensures.same_seen;
+          heard = refl;
+          ended = ended;
+          ran = run.ran;
+          tells = refl;
+        };
       });
-      complete = λ bytes sheet is ok read. run_as_due ended run.ran run.write_faults run.net_faults;
+      complete = λ bytes sheet is ok read.
+          as_due run.ran.history ended run.ran.told run.ran.proper run.ran.ends run.write_faults run.net_faults;
       counted = λ spawns.
           rw c.in-Ok.ensures.counted (driven_tells ended run.write_faults run.net_faults run.dial_faults);
       no_usage = rw c.status_of.ensures.value at c.status_of.ensures.no_usage;

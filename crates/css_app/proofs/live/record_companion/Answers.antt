@@ -1,6 +1,4 @@
 use Rattle.std.proofs.Common.{refl}
-use Rattle.css_drive.specs.CompanionDue as companion
-use Rattle.css_drive.specs.CompanionDue.{IsProperRun}
 use Rattle.css_app.proofs.LiveEnds.{as_due, driven_tells}
 use Rattle.css_app.proofs.live.record_companion.Goals as goal
 
@@ -12,8 +10,7 @@ returns g c =
     rw c.status_of.ensures.value
     (record {
       makes = record { ended = ended; recorded = ran; tells = refl };
-      complete = as_due (IsProperRun c.args.config) (companion.due c.args.config) _ _ ran.history ended ran.told
-          ran.proper ran.ends run.write_faults run.net_faults;
+      complete = as_due ran.history ended ran.told ran.proper ran.ends run.write_faults run.net_faults;
       counted = λ reads spawns. driven_tells ended run.write_faults run.net_faults run.dial_faults;
       no_usage = rw c.status_of.ensures.value at c.status_of.ensures.no_usage;
     })

@@ -1,7 +1,4 @@
 use Rattle.std.proofs.Common.{refl, inl, inr}
-use Rattle.css_drive.specs.Proper.{IsProper}
-use Rattle.css_drive.specs.TvDue.{due, run_of}
-use Rattle.css_drive.specs.TvRan.{TvRan}
 use Rattle.css_app.specs.Live.{bad_line}
 use Rattle.css_app.specs.Scripts.{script_in}
 use Rattle.css_app.proofs.Taken.{same_script, took_none}
@@ -26,9 +23,7 @@ pub returns : goal.returns
 returns g c =
     let ended = c.drive_tv.result in
     let made = c.drive_tv.ensures in
-    let run = run_of c.args.run c.in-Ok.script.items in
-    let ran : TvRan run (g.O.Outside.told c.args.outside.now) (g.O.Outside.told c.drive_tv.new.outside) ended =
-    rw (← c.deref.ensures.value) made.ran in
+    let ran = rw c.deref.ensures.value at made.ran in
     rw c.status_of.ensures.value
     (record {
       ran = inr (record {
@@ -39,13 +34,12 @@ returns g c =
         tells = refl;
       });
       complete = λ bytes script is ok read called.
-          let same = same_script (g.S.Source.left c.args.source.now) bytes
-          (g.S.Source.left c.take_script.new.source) c.in-Ok.script.items script is c.in-Ok.ensures.value ok in
-          rw (← same) (as_due (IsProper (due run)) (due run) _ _ ran.h ended ran.grew ran.proper ran.ends
+          let same = same_script _ bytes _ c.in-Ok.script.items script is c.in-Ok.ensures.value ok in
+          rw (← same) (as_due ran.h ended ran.grew ran.proper ran.ends
           (unwritten ended 0 made.counted.no_writes) made.counted.faults no_write called);
       counted = λ writes spawns. rw c.in-Ok.ensures.counted
           (driven_tells ended (unwritten ended writes made.counted.no_writes) made.counted.faults
-          (tv_dials run ran.h ended ran.ends made.counted.dials));
+          (tv_dials _ ran.h ended ran.ends made.counted.dials));
       dials = made.counted.dials;
       no_usage = rw c.status_of.ensures.value at c.status_of.ensures.no_usage;
     })

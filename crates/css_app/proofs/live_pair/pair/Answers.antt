@@ -1,9 +1,7 @@
-use Rattle.std.proofs.Common.{◌∙◌, arith, inl, inr, refl, subst}
-use Rattle.css_outside.specs.Faults.{CountsOutFault}
-use Rattle.css_app.specs.Live.{driven_status}
-use Rattle.css_app.specs.Live.{bad_line}
+use Rattle.std.proofs.Common.{◌∙◌, arith, inl, inr, refl}
+use Rattle.css_app.specs.Live.{bad_line, driven_status}
 use Rattle.css_app.specs.Scripts.{script_in}
-use Rattle.css_app.proofs.LiveEnds.{both_tell, driven_tells, made_run, pairs_as_due, run_as_due, running_after}
+use Rattle.css_app.proofs.LiveEnds.{as_due, both_tell, driven_tells, pairs_as_due, running_after}
 use Rattle.css_app.proofs.Taken.{took_none}
 use Rattle.css_app.proofs.live_pair.pair.Goals as goal
 
@@ -21,33 +19,31 @@ returns-in-Err g c =
 
 -- memory ran out before a child was started
 pub returns-in_default-clause-ran : goal.returns-in_default-clause-ran
-returns-in_default-clause-ran g c =
-    inl (((refl, refl, c.prepare.ensures.heard), refl, refl), tt)
+returns-in_default-clause-ran g c = inl (((refl, refl, c.prepare.ensures.same_seen), refl, refl), tt)
 
 -- the child was not started
 pub returns-in-Err-Failed-clause-ran : goal.returns-in-Err-Failed-clause-ran
-returns-in-Err-Failed-clause-ran g c = inr (record {
-  text = c.in-Ok.script.items;
-  gives = c.in-Ok.ensures.value;
-  beside = inl (((refl, refl, c.prepare.ensures.heard), c.in-Err-Failed.ensures.told, c.in-Err-Failed.ensures.err), tt);
-})
+returns-in-Err-Failed-clause-ran g c =
+    let start = c.in-Err-Failed.ensures in
+    inr (record {
+      text = c.in-Ok.script.items;
+      gives = c.in-Ok.ensures.value;
+      beside = inl (((refl, refl, c.prepare.ensures.same_seen), start.told, start.err), tt);
+    })
 
 pub returns-in-Err-Failed-clause-complete : goal.returns-in-Err-Failed-clause-complete
 returns-in-Err-Failed-clause-complete g c bytes script is ok read wrote called spawned =
-    let risen = subst (CountsOutFault (g.P.Spawner.faults c.args.spawner.now) (g.P.Spawner.faults c.start.new.self))
-    c.in-Err-Failed.field-0-is c.in-Err-Failed.ensures.counted in
-    let no : ⊥ = omega (arith, risen.risen spawned.below, spawned.same) in
-    elim no [ ]
+    let risen = rw c.in-Err-Failed.field-0-is at c.in-Err-Failed.ensures.counted in
+    absurd (omega (arith, risen.risen spawned.below, spawned.same))
 
 pub returns-in-Err-Memory-clause-ran : goal.returns-in-Err-Memory-clause-ran
-returns-in-Err-Memory-clause-ran g c = inr (record {
-  text = c.in-Ok.script.items;
-  gives = c.in-Ok.ensures.value;
-  beside = inl (((refl, refl, c.prepare.ensures.heard), c.in-Err-Memory.ensures.told, c.in-Err-Memory.ensures.err), tt);
-})
-
-pub returns-in-Err-Memory-clause-complete : goal.returns-in-Err-Memory-clause-complete
-returns-in-Err-Memory-clause-complete g c bytes script is ok read wrote called spawned = inl refl
+returns-in-Err-Memory-clause-ran g c =
+    let start = c.in-Err-Memory.ensures in
+    inr (record {
+      text = c.in-Ok.script.items;
+      gives = c.in-Ok.ensures.value;
+      beside = inl (((refl, refl, c.prepare.ensures.same_seen), start.told, start.err), tt);
+    })
 
 -- the child was started
 pub returns : goal.returns
@@ -55,7 +51,7 @@ returns g c =
     let run = c.drive_companion.ensures in
     let ended = c.drive_companion.result in
     let finish = c.finish-finished.ensures in
-    let words = c.deref.ensures.value ∙ c.in-Ok-prepare.ensures.words in
+    let words = c.deref.ensures.value ∙ c.in-Ok-child_words.ensures in
     let spawned = rw c.in-Ok-start.ensures.counted at finish.counted in
     rw (c.with_child.ensures.value, c.status_of-companion.ensures.value)
     (record {
@@ -64,7 +60,16 @@ returns g c =
         gives = c.in-Ok.ensures.value;
         beside = inr (record {
           companion = driven_status ended;
-          makes = made_run _ _ ended c.in-Ok-prepare.ensures.plans c.prepare.ensures.heard refl run.ran;
+          makes = record {
+            began = g.F.Listens.heard c.prepare.new.self;
+            followed = _;
+            planned = rw (← c.empty.ensures.cues, ← c.empty.ensures.meter) c.in-Ok-prepare.ensures.as_sheet;
+            before = c.prepare.ensures.same_seen;
+            heard = refl;
+            ended = ended;
+            ran = run.ran;
+            tells = refl;
+          };
           finished = c.finish-finished.result;
           told = rw (c.in-Ok-start.ensures.told, words, c.deref-2.ensures.value) at finish.told;
           running = running_after c.finish-finished.result _ _ _ c.in-Ok-start.ensures.ok finish.ok finish.err;
@@ -73,7 +78,8 @@ returns g c =
       });
       complete = λ bytes script is ok read wrote called.
           pairs_as_due c.args.config _ _ (driven_status ended) c.finish-finished.result _ _
-          (run_as_due ended run.ran run.write_faults run.net_faults wrote called) spawned;
+          (as_due run.ran.history ended run.ran.told run.ran.proper run.ran.ends run.write_faults run.net_faults
+          wrote called) spawned;
       counted = rw c.in-Ok.ensures.counted
           (both_tell ended c.finish-finished.result
           (driven_tells {s = g.P.Spawner.faults c.args.spawner.now} ended run.write_faults run.net_faults

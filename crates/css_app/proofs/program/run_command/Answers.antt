@@ -10,18 +10,16 @@ returns-then-words-clause-does g c = rw (c.in-Ok-Companion.is, c.in-Ok-Companion
   λ plain. absurd (cc),
   λ recorded. record {
     ran = inr (c.run_of-run.result, c.run_of-run.ensures.asked, c.record_companion.ensures.makes);
-    complete = λ wrote called.
-        as_asked c.run_of-run.result c.run_of-run.ensures.asked (c.record_companion.ensures.complete wrote called);
+    complete = λ wrote called. as_asked _ c.run_of-run.ensures.asked (c.record_companion.ensures.complete wrote called);
   },
 )
 
 pub returns-else-words-clause-does : goal.returns-else-words-clause-does
 returns-else-words-clause-does g c = rw (c.in-Ok-Companion.is, c.in-Ok-Companion.field-0-is) (
   λ plain. record {
-    ran = as_asked c.run_of-run.result c.run_of-run.ensures.asked c.companion.ensures.ran;
+    ran = as_asked _ c.run_of-run.ensures.asked c.companion.ensures.ran;
     complete = λ bytes sheet is ok read wrote called.
-        as_asked c.run_of-run.result c.run_of-run.ensures.asked
-        (c.companion.ensures.complete bytes sheet is ok read wrote called);
+        as_asked _ c.run_of-run.ensures.asked (c.companion.ensures.complete bytes sheet is ok read wrote called);
   },
   λ recorded. absurd (cc),
 )
@@ -34,9 +32,9 @@ returns-in-Ok-Tv-clause-does g c = rw (c.in-Ok-Tv.is, c.in-Ok-Tv.field-0-is) (re
 
 pub returns-in-Ok-clause-does : goal.returns-in-Ok-clause-does
 returns-in-Ok-clause-does g c = rw (c.in-Ok-Pair.is, c.in-Ok-Pair.field-0-is) (record {
-  ran = as_asked c.in-Ok.run' c.in-Ok.ensures.run (rw c.in-Ok.ensures.child at c.pair.ensures.ran);
+  ran = as_asked _ c.in-Ok.ensures.run (rw c.in-Ok.ensures.child at c.pair.ensures.ran);
   complete = λ bytes script is ok read wrote called spawned.
-      as_asked c.in-Ok.run' c.in-Ok.ensures.run (c.pair.ensures.complete bytes script is ok read wrote called spawned);
+      as_asked _ c.in-Ok.ensures.run (c.pair.ensures.complete bytes script is ok read wrote called spawned);
 })
 
 pub returns-in-Ok-Relay-clause-does : goal.returns-in-Ok-Relay-clause-does
@@ -49,7 +47,7 @@ returns-in-Ok-Relay-clause-does g c =
       ran = inr (run, c.relay_run_of.ensures.asked, (ended, made.ran, refl));
       complete = λ called.
           as_asked run c.relay_run_of.ensures.asked
-          (as_due (IsProperRelay run) (due run) _ _ made.ran.history ended made.ran.grew made.ran.proper
+          (as_due {proper = IsProperRelay run} {due_of = due run} made.ran.history ended made.ran.grew made.ran.proper
           made.ran.ends (unwritten ended 0 made.counted.no_writes) made.counted.faults no_write called);
     })
 

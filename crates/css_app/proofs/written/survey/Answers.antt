@@ -5,9 +5,6 @@ use Rattle.css_app.proofs.written.survey.Goals as goal
 pub returns-in_default-clause-writes : goal.returns-in_default-clause-writes
 returns-in_default-clause-writes g c = nothing_of _ _
 
-pub returns-in_default-line-clause-writes : goal.returns-in_default-line-clause-writes
-returns-in_default-line-clause-writes g c = nothing_of _ _
-
 pub returns-in-Ok-write_all-clause-writes : goal.returns-in-Ok-write_all-clause-writes
 returns-in-Ok-write_all-clause-writes g c =
     rw (c.as_bytes.ensures.value, c.in-Ok-line.ensures, c.in-Ok.ensures) at c.in-Ok-write_all.ensures.ok

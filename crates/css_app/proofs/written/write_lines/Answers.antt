@@ -11,64 +11,56 @@ use Rattle.css_survey.specs.Generated.{schedule_text}
 use Rattle.css_survey.proofs.Giving.{gave}
 use Rattle.css_app.proofs.written.write_lines.Goals as goal
 
--- ---- the schedule
--- it begins with its first lines
-schedule-front : (seed companions given more : ℕ)
-    → IsPrefix (schedule_text seed companions given) (schedule_text seed companions (given + more))
-schedule-front seed companions given zero =
-    let same : given + 0 ≡ given = omega arith in
-    rw same (prefix_refl (schedule_text seed companions given))
-schedule-front seed companions given (suc more) =
-    let same : given + suc more ≡ suc (given + more) = omega arith in
-    rw same
-    (prefix_trans (schedule_text seed companions given) (schedule_text seed companions (given + more))
-    (schedule_text seed companions (suc (given + more))) (schedule-front seed companions given more)
-    (text_in seed companions (suc (given + more)) ++ 10 ∷ [], refl))
+module _ (seed companions : ℕ) where
+  abbrev text : ℕ → List ℕ
+  text lines = schedule_text seed companions lines
 
-schedule-begins : (seed companions given lines : ℕ) → given ≤ lines
-    → IsPrefix (schedule_text seed companions given) (schedule_text seed companions lines)
-schedule-begins seed companions given lines fewer =
-    let same : given + (lines - given) ≡ lines = omega (arith, fewer) in
-    rw same at (schedule-front seed companions given (lines - given))
+  abbrev line : ℕ → List ℕ
+  line number = text_in seed companions number ++ 10 ∷ []
 
--- one line more was written
-one_more : (seed companions given : ℕ) (start held holds : Option (List ℕ))
-    → Appends start held (schedule_text seed companions given)
-    → Appends held holds (text_in seed companions (given + 1) ++ 10 ∷ [])
-    → Appends start holds (schedule_text seed companions (given + 1))
-one_more seed companions given start held holds grew line =
-    let more : given + 1 ≡ suc given = omega arith in
-    rw more
-    (appends_more start held holds (schedule_text seed companions given)
-    (text_in seed companions (suc given) ++ 10 ∷ []) grew (rw more at line))
+  -- a schedule begins with its first lines
+  text-front : (given more : ℕ) → IsPrefix (text given) (text (given + more))
+  text-front given zero =
+      let same : given + 0 ≡ given = omega arith in
+      rw same (prefix_refl (text given))
+  text-front given (suc more) =
+      let same : given + suc more ≡ suc (given + more) = omega arith in
+      rw same
+      (prefix_trans (text given) (text (given + more)) (text (suc (given + more))) (text-front given more)
+      (line (suc (given + more)), refl))
 
--- no line more was written
-stops_before : (seed companions given lines : ℕ) (start holds : Option (List ℕ)) → given ≤ lines
-    → Appends start holds (schedule_text seed companions given)
-    → AppendsPrefix start holds (schedule_text seed companions lines)
-stops_before seed companions given lines start holds fewer grew = record {
-  front = schedule_text seed companions given;
-  of = schedule-begins seed companions given lines fewer;
-  grew = grew;
-}
+  text-begins : (given lines : ℕ) → given ≤ lines → IsPrefix (text given) (text lines)
+  text-begins given lines fewer =
+      let same : given + (lines - given) ≡ lines = omega (arith, fewer) in
+      rw same at (text-front given (lines - given))
 
--- a part of the next line was written
-stops_within : (seed companions given lines : ℕ) (start held holds : Option (List ℕ)) → given < lines
-    → Appends start held (schedule_text seed companions given)
-    → AppendsPrefix held holds (text_in seed companions (given + 1) ++ 10 ∷ [])
-    → AppendsPrefix start holds (schedule_text seed companions lines)
-stops_within seed companions given lines start held holds fewer grew part =
-    let begun = schedule_text seed companions given in
-    let more : given + 1 ≡ suc given = omega arith in
-    let line = rw more at part.of.1 in
-    record {
-      front = begun ++ part.front;
-      of = prefix_trans (begun ++ part.front) (schedule_text seed companions (suc given))
-          (schedule_text seed companions lines)
-          (part.of.0, ap (λ (l : List ℕ). begun ++ l) line ∙ sym (append_assoc begun part.front part.of.0))
-          (schedule-begins seed companions (suc given) lines (omega (arith, fewer)));
-      grew = appends_more start held holds begun part.front grew part.grew;
-    }
+  -- one line more was written
+  one_more : (given : ℕ) (start held holds : Option (List ℕ)) → Appends start held (text given)
+      → Appends held holds (line (given + 1)) → Appends start holds (text (given + 1))
+  one_more given start held holds grew wrote =
+      let more : given + 1 ≡ suc given = omega arith in
+      rw more (appends_more start held holds (text given) (line (suc given)) grew (rw more at wrote))
+
+  -- no line more was written
+  stops_before : (given lines : ℕ) (start holds : Option (List ℕ)) → given ≤ lines → Appends start holds (text given)
+      → AppendsPrefix start holds (text lines)
+  stops_before given lines start holds fewer grew =
+      record { front = text given; of = text-begins given lines fewer; grew = grew }
+
+  -- a part of the next line was written
+  stops_within : (given lines : ℕ) (start held holds : Option (List ℕ)) → given < lines
+      → Appends start held (text given) → AppendsPrefix held holds (line (given + 1))
+      → AppendsPrefix start holds (text lines)
+  stops_within given lines start held holds fewer grew part =
+      let more : given + 1 ≡ suc given = omega arith in
+      let rest = rw more at part.of.1 in
+      record {
+        front = text given ++ part.front;
+        of = prefix_trans (text given ++ part.front) (text (suc given)) (text lines)
+            (part.of.0, ap (λ l. text given ++ l) rest ∙ sym (append_assoc (text given) part.front part.of.0))
+            (text-begins (suc given) lines (omega (arith, fewer)));
+        grew = appends_more start held holds (text given) part.front grew part.grew;
+      }
 
 -- ---- the goals
 pub returns-in_err-text-clause-err : goal.returns-in_err-text-clause-err
