@@ -1,6 +1,6 @@
 -- How far texts are read, what is known of a schedule as far as it is read, what a line answers, and that what is
 -- printed for texts keeps the promise.
-use Rattle.std.proofs.Common.{◌≡◌, ◌≢◌, ℕ, zero, suc, ◌+◌, ◌-◌, arith, ap, subst, ◌∙◌, Bool, refl, List, [], ◌∷◌, ◌++◌}
+use Rattle.std.proofs.Common.{◌≡◌, ◌≢◌, ℕ, zero, suc, ◌+◌, arith, ap, subst, ◌∙◌, Bool, refl, List, [], ◌∷◌, ◌++◌}
 use Rattle.std.proofs.Common.{length, ◌==◌, ◌⊎◌, inl, inr, sym, rules}
 use Rattle.std.specs.Int.{w8}
 use Rattle.std.specs.Prelude.{ℤ, pos, negsuc, ◌≤ℤ◌, FitsSigned, All, unwrap_or, slice_get, Result, Ok, Err, OnOk}
@@ -90,17 +90,7 @@ local-good (companion ∷ list) (suc place) all = search (rules, local-good list
 -- a good header is whole
 header-whole : (number version : ℕ) (header : Header) → IsGoodHeader header → IsCount (length header.companions)
     → IsVersion version → FitsFirst (version == 1) (length header.companions) → IsWhole number header version []
-header-whole number version header good count known fits = record {
-  declared = record {
-    tv = good.0;
-    companions = count;
-    exponent = fits-exponent header.tv_precision good.1.least good.1.greatest;
-    local = λ who. local-good header.companions (who - 1) good.1.companions;
-  };
-  known = known;
-  fits = fits;
-  next = tt;
-}
+header-whole number version header good count known fits = search (rules, fits-exponent, local-good)
 
 -- the number after a line is next
 next-line : (number : ℕ) (older : List Numbered) (line : Result Line LineFault) → IsNext number older
@@ -116,14 +106,11 @@ well-after number Outset text well = by (header_of text) refl
     by (Err fault) is = tt
     by (Ok (One header)) is =
         let range : IsStart (One header) = start_in_range text (Ok (One header)) is in
-        let one = range.1 in
-        header-whole (suc number) 1 header (range.0, range.2)
-        (record { low = omega (arith, one); high = omega (arith, one) }) (omega arith, omega arith) one
+        header-whole (suc number) 1 header (range.0, range.2) (search rules) (search rules) range.1
     by (Ok (Two header count)) is =
         let range : IsStart (Two header count) = start_in_range text (Ok (Two header count)) is in
         let empty : length header.companions ≡ 0 = ap length range.1 in
-        let low = range.2.low in
-        record { good = range.0; more = omega (arith, empty, low); few = range.2.high }
+        search rules
 well-after number (Opening header count) text part = by (next_companion header text) refl
   where
     by : (read : Result CompanionLine LineFault) → next_companion header text ≡ read
@@ -134,30 +121,23 @@ well-after number (Opening header count) text part = by (next_companion header t
         let good = more_companions header companion part.good
         (companion_in_range (length header.companions + 1) text (Ok companion) is) in
         let longer = length-append header.companions (companion ∷ []) in
-        let within : IsCount (length more.companions) =
-        record { low = omega (arith, longer); high = omega (arith, longer, part.more, part.few) } in
         on_grown (IsWell (suc number)) more count
-        (λ all. header-whole (suc number) 2 more good within (omega arith, omega arith) within)
-        (λ apart. record { good = good; more = omega (arith, longer, part.more, apart); few = part.few })
-well-after number (Running header version lines) text well = record {
-  declared = well.declared;
-  known = well.known;
-  fits = well.fits;
-  next = next-line number lines (line_in version (length header.companions) text) well.next;
-}
+        (λ all. header-whole (suc number) 2 more good (search rules) (search rules) (search rules))
+        (λ apart. search rules)
+well-after number (Running header version lines) text well = search (rules, next-line)
 well-after number Unread text well = tt
 
 -- and with several
 well-from : (number : ℕ) (extent : Extent) (texts : List (List ℕ)) → IsWell number extent
     → IsWell (number + length texts) (read_from number extent texts)
-well-from number extent [] well = let same : number + 0 ≡ number = omega arith in rw same well
+well-from number extent [] well = search rules
 well-from number extent (t ∷ texts) well =
-    let same : number + length (t ∷ texts) ≡ suc number + length texts = omega arith in
-    rw same (well-from (suc number) (after number extent t) texts (well-after number extent t well))
+    let rest = well-from (suc number) (after number extent t) texts (well-after number extent t well) in
+    grind (arith, common_steps)
 
 -- so it is of any schedule, and the number of a text is above those of the lines before it
 pub well : (texts : List (List ℕ)) → IsWell (length texts + 1) (reached texts)
-well texts = let same : length texts + 1 ≡ 1 + length texts = omega arith in rw same (well-from 1 Outset texts tt)
+well texts = let all = well-from 1 Outset texts tt in grind (arith, common_steps)
 
 -- ---- what is answered
 -- a line that was carried out, or was not, answers what is meant
