@@ -1,8 +1,9 @@
 -- What a recorder has written.
-use Rattle.std.proofs.Common.{◌≡◌, ℕ, ap, sym, ◌∙◌, subst, refl, List, [], ◌∷◌, ◌++◌, append_assoc, append-nil}
+use Rattle.std.proofs.Common.{◌≡◌, ℕ, arith, ap, sym, ◌∙◌, subst, refl, List, [], ◌∷◌, ◌++◌, append_assoc, append-nil}
 use Rattle.std.proofs.KnownBytes.{Appends-trans}
+use Rattle.std.proofs.lemmas.Grind.{common_steps}
 use Rattle.std.proofs.lemmas.List.Concat.{flat_map-append}
-use Rattle.std.specs.Prelude.{Option, Some, None, Result, Ok, Err}
+use Rattle.std.specs.Prelude.{Option, None, Result, Ok, Err}
 use Rattle.std.specs.Option.{option_to_list}
 use Rattle.std.specs.Result.{result_err}
 use Rattle.css_model.specs.History.{History}
@@ -10,7 +11,7 @@ use Rattle.css_outside.specs.Faults.{CountsOutFault}
 use Rattle.css_outside.specs.Outsides.{with_entries}
 use Rattle.css_outside.specs.declared.fault.OutFault.{OutFault}
 use Rattle.css_outside.specs.declared.fault.OutFault.TheVariants as fault
-use Rattle.css_audit.specs.Printed.{line_text, record_text}
+use Rattle.css_audit.specs.Printed.{record_text}
 use Rattle.css_audit.specs.declared.input.RecordLine.{RecordLine}
 use Rattle.css_drive.specs.CompanionDue.{due}
 use Rattle.css_drive.specs.CompanionStanding.{Made, IsEndOf}
@@ -27,9 +28,7 @@ use Rattle.css_record.specs.Runs.{HoldsRecord, Recorded, Writes}
 -- those of later notes stand after those of earlier ones
 texts_on : (later earlier : List RecordLine) → text_in (later ++ earlier) ≡ text_in earlier ++ text_in later
 texts_on [] earlier = sym (append-nil (text_in earlier))
-texts_on (line ∷ later) earlier =
-    ap (λ x. x ++ (line_text line ++ 10 ∷ [])) (texts_on later earlier)
-    ∙ append_assoc (text_in earlier) (text_in later) (line_text line ++ 10 ∷ [])
+texts_on (line ∷ later) earlier = let rest = texts_on later earlier in grind (arith, common_steps)
 
 pub text_on : (later earlier : List Note) → text_of (later ++ earlier) ≡ text_of earlier ++ text_of later
 text_on later earlier =
@@ -40,10 +39,7 @@ text_on later earlier =
 record_split : (config : DriveConfig) (lines : List RecordLine)
     → record_text config.companion lines ≡ record_text config.companion [] ++ text_in lines
 record_split config [] = sym (append-nil (record_text config.companion []))
-record_split config (line ∷ older) =
-    append_assoc (record_text config.companion older) (line_text line) (10 ∷ [])
-    ∙ ap (λ x. x ++ (line_text line ++ 10 ∷ [])) (record_split config older)
-    ∙ append_assoc (record_text config.companion []) (text_in older) (line_text line ++ 10 ∷ [])
+record_split config (line ∷ older) = let rest = record_split config older in grind (arith, common_steps)
 
 -- ---- writes
 -- these bytes were written after others
@@ -96,8 +92,7 @@ recorded {config = config} {ended = ended} m w =
     )
 
 no_entries : (told : Option History) → told ≡ with_entries [] told
-no_entries None = refl
-no_entries (Some history) = refl
+no_entries told = grind (arith, common_steps)
 
 -- the header was written in part, or not at all
 pub unbegun : {config : DriveConfig} {told : Option History} {held holds : Option (List ℕ)} {ended : Driven}
