@@ -77,10 +77,6 @@ module _ (header : Header) (older : List Numbered) (now : Numbered) (printed : L
       → KeepsLine header older now printed
   kept_line declared accepted e =
       let truth = accepted_lines_are_true header older now declared accepted in
-      record {
-        kept = kept-by now.line.verb refl truth
-            (printed_is header older now printed (carried_ok header older now printed e));
-        landing = truth.landing;
-        told = truth.told;
-        in_step = truth.in_step;
-      }
+      let is = printed_is header older now printed (carried_ok header older now printed e) in
+      let kept = kept-by now.line.verb refl truth is in
+      search rules

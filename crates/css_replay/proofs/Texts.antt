@@ -1,7 +1,7 @@
 -- How far texts are read, what is known of a schedule as far as it is read, what a line answers, and that what is
 -- printed for texts keeps the promise.
 use Rattle.std.proofs.Common.{◌≡◌, ◌≢◌, ℕ, zero, suc, ◌+◌, arith, ap, subst, ◌∙◌, Bool, refl, List, [], ◌∷◌, ◌++◌}
-use Rattle.std.proofs.Common.{length, ◌==◌, ◌⊎◌, inl, inr, sym, rules}
+use Rattle.std.proofs.Common.{length, ◌==◌, ◌⊎◌, inl, inr, rules}
 use Rattle.std.specs.Int.{w8}
 use Rattle.std.specs.Prelude.{ℤ, pos, negsuc, ◌≤ℤ◌, FitsSigned, All, unwrap_or, slice_get, Result, Ok, Err, OnOk}
 use Rattle.std.specs.Prelude.{Option, Some, None}
@@ -172,14 +172,7 @@ module _ {world : World} {version companions : ℕ} (texts : List (List ℕ))
       → StandsFor after (record { number = length texts + 1; line = line } ∷ runs.lines)
       → RunsAt after version companions (reached (texts ++ text ∷ []))
   goes-on {line = line} text read header stands =
-      let lines : List Numbered = record { number = length texts + 1; line = line } ∷ runs.lines in
-      rw (reached-push texts text, runs.is, ← runs.count, read)
-      (record {
-        lines = lines;
-        is = ap (λ (h : Header). Running h version lines) (sym header);
-        count = runs.count ∙ ap (λ (h : Header). length h.companions) (sym header);
-        stands = stands;
-      })
+      rw (reached-push texts text, runs.is, ← runs.count, read) (search rules)
 
 -- a line of either version is one of so many companions, or the television's alone
 pub of-second : (first : Bool) (count : ℕ) (line : Line) → FitsFirst first count → IsOf first count line
@@ -254,17 +247,8 @@ promise_of bytes texts rest printed parts taken =
   where
     by : (extent : Extent) → reached texts ≡ extent → IsWell (length texts + 1) extent → TakenAt extent printed
         → (printed ≡ []) ⊎ PromiseKept bytes printed
-    by (Running header version lines) is well t = inr (record {
-      texts = texts;
-      rest = rest;
-      are_lines = parts;
-      header = header;
-      version = version;
-      lines = lines;
-      is_read = is;
-      world = accepted_lines_are_world header lines well.declared t.0;
-      kept = t.1;
-    })
+    by (Running header version lines) is well t =
+        let world = accepted_lines_are_world header lines well.declared t.0 in inr (search rules)
     by Unread is well t = absurd t
     by _ is well t = inl t
 
@@ -289,21 +273,12 @@ front_keeps bytes front whole prefix keeps = (keeps.0, prefix_trans front whole 
 pub promised_done : {left_old left_new holds_old holds_new : Option (List ℕ)} {lines : Replay}
     → Finishes replayed Stands left_old left_new holds_old holds_new lines
     → Promised left_old left_new holds_old holds_new
-promised_done f = record {
-  read = f.read;
-  printed = f.printed;
-  took = f.took;
-  grew = f.grew;
-  keeps = keeps_done replayed KeepsPromise so_far in_all front_keeps f.read f.printed f.all;
-}
+promised_done f =
+    let keeps = keeps_done replayed KeepsPromise so_far in_all front_keeps f.read f.printed f.all in search rules
 
 -- also where it stopped
 pub promised_stop : {left_old left_new holds_old holds_new : Option (List ℕ)} (stop : Stop Cause)
     → Stops replayed left_old left_new holds_old holds_new stop → Promised left_old left_new holds_old holds_new
-promised_stop {left_new = left_new} stop s = record {
-  read = s.read;
-  printed = s.printed;
-  took = s.took;
-  grew = s.grew;
-  keeps = keeps_stop replayed KeepsPromise so_far in_all front_keeps s.read s.printed left_new stop s.ends;
-}
+promised_stop {left_new = left_new} stop s =
+    let keeps = keeps_stop replayed KeepsPromise so_far in_all front_keeps s.read s.printed left_new stop s.ends in
+    search rules
