@@ -1,10 +1,9 @@
 -- What a recorder has written.
-use Rattle.std.proofs.Common.{◌≡◌, ℕ, arith, ap, sym, ◌∙◌, subst, refl, List, [], ◌∷◌, ◌++◌, append_assoc, append-nil}
+use Rattle.std.proofs.Common.{◌≡◌, ℕ, arith, ap, sym, ◌∙◌, subst, refl, rules, List, [], ◌∷◌, ◌++◌, append_assoc, append-nil}
 use Rattle.std.proofs.KnownBytes.{Appends-trans}
 use Rattle.std.proofs.lemmas.Grind.{common_steps}
 use Rattle.std.proofs.lemmas.List.Concat.{flat_map-append}
 use Rattle.std.specs.Prelude.{Option, None, Result, Ok, Err}
-use Rattle.std.specs.Option.{option_to_list}
 use Rattle.std.specs.Result.{result_err}
 use Rattle.css_model.specs.History.{History}
 use Rattle.css_outside.specs.Faults.{CountsOutFault}
@@ -21,7 +20,7 @@ use Rattle.css_drive.specs.Proper.{Empty}
 use Rattle.css_drive.specs.declared.config.DriveConfig.{DriveConfig}
 use Rattle.css_drive.specs.declared.driven.Driven.{Driven}
 use Rattle.css_drive.specs.declared.driven.Driven.TheVariants as driven
-use Rattle.css_record.specs.Lines.{note_line, lines_of, text_in, text_of, record_of}
+use Rattle.css_record.specs.Lines.{lines_of, text_in, text_of, record_of}
 use Rattle.css_record.specs.Runs.{HoldsRecord, Recorded, Writes}
 
 -- ---- lines
@@ -31,9 +30,7 @@ texts_on [] earlier = sym (append-nil (text_in earlier))
 texts_on (line ∷ later) earlier = let rest = texts_on later earlier in grind (arith, common_steps)
 
 pub text_on : (later earlier : List Note) → text_of (later ++ earlier) ≡ text_of earlier ++ text_of later
-text_on later earlier =
-    ap text_in (flat_map-append (λ note. option_to_list (note_line note)) later earlier)
-    ∙ texts_on (lines_of later) (lines_of earlier)
+text_on later earlier = search (rules, flat_map-append, texts_on)
 
 -- the header stands before them
 record_split : (config : DriveConfig) (lines : List RecordLine)
@@ -79,17 +76,9 @@ pub recorded : {T : Type 0} {written : Result T OutFault} {config : DriveConfig}
     → Writes written held holds was is (record_of config [] ++ text_of (noted config m.history))
     → Recorded config before now held holds ended × CountsWriteFault was is ended
 recorded {config = config} {ended = ended} m w =
-    let left = ends_by ended m.so w in (
-      record {
-        history = m.history;
-        told = m.told;
-        proper = m.proper;
-        ends = m.ends;
-        promised = m.promised;
-        wrote = rw (record_split config (lines_of (noted config m.history))) left.0;
-      },
-      left.1,
-    )
+    let left = ends_by ended m.so w in
+    let wrote = rw (← record_split config (lines_of (noted config m.history))) at left.0 in
+    (search rules, left.1)
 
 no_entries : (told : Option History) → told ≡ with_entries [] told
 no_entries told = grind (arith, common_steps)
