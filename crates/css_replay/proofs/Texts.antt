@@ -164,7 +164,8 @@ module _ {world : World} {version companions : ℕ} (texts : List (List ℕ))
       → LeavesBy Memory result old new
       (appended old (line_meant world.header runs.lines (record { number = length texts + 1; line = line })))
       → Answers (meant_at (length texts + 1) (reached texts) text) old new (told_of result)
-  answers text result read left = rw (runs.is, ← runs.count, read) (answered (line_meant world.header runs.lines _) _ _ result left)
+  answers text result read left =
+      rw (runs.is, ← runs.count, read) (answered (line_meant world.header runs.lines _) _ _ result left)
 
   -- the lines go on with it, once it was carried out
   pub goes-on : {after : World} {line : Line} (text : List ℕ) → line_in version companions text ≡ Ok line
@@ -199,7 +200,8 @@ taken-at : (number : ℕ) (extent : Extent) (text sofar printed : List ℕ) → 
     → meant_at number extent text ≡ Ok printed → TakenAt (after number extent text) (sofar ++ printed)
 taken-at number Outset text sofar printed well taken e = grind (arith, common_steps)
 taken-at number (Opening header count) text sofar printed well taken e = grind (arith, common_steps)
-taken-at number (Running header version lines) text sofar printed well taken e = by (line_in version (length header.companions) text) refl e
+taken-at number (Running header version lines) text sofar printed well taken e =
+    by (line_in version (length header.companions) text) refl e
   where
     by : (read : Result Line LineFault) → line_in version (length header.companions) text ≡ read
         → read_meant header lines number read ≡ Ok printed
@@ -231,13 +233,10 @@ finishes : (before : List (List ℕ)) → (verdict : Option (ℕ × Refusal Caus
     × (finish_outcome replayed before ≡ record { printed = []; verdict = verdict })
 finishes before = by (reached before)
   where
-    number : ℕ
-    number = length before + 1
-
     by : (extent : Extent) → (verdict : Option (ℕ × Refusal Cause))
-        × (reader_outcome number (ended_at extent) ≡ record { printed = []; verdict = verdict })
+        × (reader_outcome (length before + 1) (ended_at extent) ≡ record { printed = []; verdict = verdict })
     by (Running header version lines) = (None, refl)
-    by _ = (Some (number, Refused Form), refl)
+    by _ = (Some (length before + 1, Refused Form), refl)
 
 -- what was taken keeps the promise
 promise_of : (bytes : List ℕ) (texts rest : List (List ℕ)) (printed : List ℕ) → lines_of bytes ≡ texts ++ rest
