@@ -1,16 +1,17 @@
 -- What a recorder has written.
-use Rattle.std.proofs.Common.{◌≡◌, ℕ, ap, sym, ◌∙◌, subst, refl, List, [], ◌∷◌, ◌++◌, append_assoc, append-nil}
+use Rattle.std.proofs.Common.{◌≡◌, ℕ, arith, ap, sym, ◌∙◌, subst, refl, rules, List, [], ◌∷◌, ◌++◌}
+use Rattle.std.proofs.Common.{append_assoc, append-nil}
 use Rattle.std.proofs.KnownBytes.{Appends-trans}
+use Rattle.std.proofs.lemmas.Grind.{common_steps}
 use Rattle.std.proofs.lemmas.List.Concat.{flat_map-append}
-use Rattle.std.specs.Prelude.{Option, Some, None, Result, Ok, Err}
-use Rattle.std.specs.Option.{option_to_list}
+use Rattle.std.specs.Prelude.{Option, None, Result, Ok, Err}
 use Rattle.std.specs.Result.{result_err}
 use Rattle.css_model.specs.History.{History}
 use Rattle.css_outside.specs.Faults.{CountsOutFault}
 use Rattle.css_outside.specs.Outsides.{with_entries}
 use Rattle.css_outside.specs.declared.fault.OutFault.{OutFault}
 use Rattle.css_outside.specs.declared.fault.OutFault.TheVariants as fault
-use Rattle.css_audit.specs.Printed.{line_text, record_text}
+use Rattle.css_audit.specs.Printed.{record_text}
 use Rattle.css_audit.specs.declared.input.RecordLine.{RecordLine}
 use Rattle.css_drive.specs.CompanionDue.{due}
 use Rattle.css_drive.specs.CompanionStanding.{Made, IsEndOf}
@@ -20,30 +21,23 @@ use Rattle.css_drive.specs.Proper.{Empty}
 use Rattle.css_drive.specs.declared.config.DriveConfig.{DriveConfig}
 use Rattle.css_drive.specs.declared.driven.Driven.{Driven}
 use Rattle.css_drive.specs.declared.driven.Driven.TheVariants as driven
-use Rattle.css_record.specs.Lines.{note_line, lines_of, text_in, text_of, record_of}
+use Rattle.css_record.specs.Lines.{lines_of, text_in, text_of, record_of}
 use Rattle.css_record.specs.Runs.{HoldsRecord, Recorded, Writes}
 
 -- ---- lines
 -- those of later notes stand after those of earlier ones
 texts_on : (later earlier : List RecordLine) → text_in (later ++ earlier) ≡ text_in earlier ++ text_in later
 texts_on [] earlier = sym (append-nil (text_in earlier))
-texts_on (line ∷ later) earlier =
-    ap (λ x. x ++ (line_text line ++ 10 ∷ [])) (texts_on later earlier)
-    ∙ append_assoc (text_in earlier) (text_in later) (line_text line ++ 10 ∷ [])
+texts_on (line ∷ later) earlier = let rest = texts_on later earlier in grind (arith, common_steps)
 
 pub text_on : (later earlier : List Note) → text_of (later ++ earlier) ≡ text_of earlier ++ text_of later
-text_on later earlier =
-    ap text_in (flat_map-append (λ note. option_to_list (note_line note)) later earlier)
-    ∙ texts_on (lines_of later) (lines_of earlier)
+text_on later earlier = search (rules, flat_map-append, texts_on)
 
 -- the header stands before them
 record_split : (config : DriveConfig) (lines : List RecordLine)
     → record_text config.companion lines ≡ record_text config.companion [] ++ text_in lines
 record_split config [] = sym (append-nil (record_text config.companion []))
-record_split config (line ∷ older) =
-    append_assoc (record_text config.companion older) (line_text line) (10 ∷ [])
-    ∙ ap (λ x. x ++ (line_text line ++ 10 ∷ [])) (record_split config older)
-    ∙ append_assoc (record_text config.companion []) (text_in older) (line_text line ++ 10 ∷ [])
+record_split config (line ∷ older) = let rest = record_split config older in grind (arith, common_steps)
 
 -- ---- writes
 -- these bytes were written after others
@@ -83,21 +77,12 @@ pub recorded : {T : Type 0} {written : Result T OutFault} {config : DriveConfig}
     → Writes written held holds was is (record_of config [] ++ text_of (noted config m.history))
     → Recorded config before now held holds ended × CountsWriteFault was is ended
 recorded {config = config} {ended = ended} m w =
-    let left = ends_by ended m.so w in (
-      record {
-        history = m.history;
-        told = m.told;
-        proper = m.proper;
-        ends = m.ends;
-        promised = m.promised;
-        wrote = rw (record_split config (lines_of (noted config m.history))) left.0;
-      },
-      left.1,
-    )
+    let left = ends_by ended m.so w in
+    let wrote = rw (← record_split config (lines_of (noted config m.history))) at left.0 in
+    (search rules, left.1)
 
 no_entries : (told : Option History) → told ≡ with_entries [] told
-no_entries None = refl
-no_entries (Some history) = refl
+no_entries told = grind (arith, common_steps)
 
 -- the header was written in part, or not at all
 pub unbegun : {config : DriveConfig} {told : Option History} {held holds : Option (List ℕ)} {ended : Driven}

@@ -1,5 +1,6 @@
 -- What the status of a run over lines tells of it and of its devices.
 use Rattle.std.proofs.Common.{◌≡◌, ℕ, arith, rules, subst, refl, inl, inr, List}
+use Rattle.std.proofs.lemmas.Grind.{common_steps}
 use Rattle.std.specs.Prelude.{Option, Some, None, ⊤}
 use Rattle.css_lines.specs.Meaning.{Meaning, outcome}
 use Rattle.css_lines.specs.Ending.{RanToEnd, RanUntil, SourceCounts, SinkCounts}
@@ -73,11 +74,7 @@ module _ {Cause : Type 0} (refused : ℕ → Refusal Cause → Status)
       → HasNotFailed r r' → HasNotFailed w w' → IsDoneUnlessMemory (stop_status refused stop)
   only_memory (stops.BadLine line why) ran accepted source sink read written =
       absurd (let none = rw ran.verdict at accepted in cc)
-  only_memory stops.ReadFault ran accepted source sink read written =
-      omega (arith, source.risen read.below, read.same)
-  only_memory stops.WriteFault ran accepted source sink read written =
-      omega (arith, sink.risen written.below, written.same)
-  only_memory stops.Memory ran accepted source sink read written = tt
+  only_memory _ ran accepted source sink read written = grind (arith, common_steps)
 
   pub stopped : {meaning : Meaning Cause} {source : SourceUse} {sink : SinkUse} (stop : Stop Cause)
       → ((bytes : List ℕ) → source.left_old ≡ Some bytes

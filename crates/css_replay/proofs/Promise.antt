@@ -1,5 +1,5 @@
 -- What is printed for a line that a replay accepts keeps the promise.
-use Rattle.std.proofs.Common.{◌≡◌, ℕ, arith, inl, inr, refl, List, [], ◌∷◌}
+use Rattle.std.proofs.Common.{◌≡◌, ℕ, arith, rules, inl, refl, List, [], ◌∷◌}
 use Rattle.std.specs.Prelude.{ℤ, pos, Option, Some, None, IfSome, MatchOption, Ok}
 use Rattle.std.specs.Option.{option_map}
 use Rattle.std.proofs.lemmas.Grind.{common_steps}
@@ -43,9 +43,8 @@ module _ (header : Header) (older : List Numbered) (now : Numbered) (printed : L
       → printed ≡ wall_text now.number (option_map (span_of own reading) o) now.line.w
       → IfSome (option_map (span_of own reading) o) (λ span. Covers span (pos now.line.w))
       → IsKept header older now (Wall reading) printed
-  kept-wall reading None least e c = inr (record { lacking = least; is_printed = e })
-  kept-wall reading (Some answer) least e c =
-      inl (record { response = answer; narrowest = least; contains = c; is_printed = e })
+  kept-wall reading None least e c = search rules
+  kept-wall reading (Some answer) least e c = search rules
 
   -- and at `print`
   kept-print : (reading : ℕ) (o : Option Answer) (report : Report) (position : Option ℤ)
@@ -54,23 +53,12 @@ module _ (header : Header) (older : List Numbered) (now : Numbered) (printed : L
       → MatchOption o (accepted ≡ []) (IsLeast (λ answer. scaled_width own answer reading) accepted)
       → printed ≡ companions.line_of now.number report position → HasTickOf report position
       → IsKept header older now (Print reading) printed
-  kept-print reading o (reports.None why) position so first told least e c =
-      inr (record { cause = why; first = first; is_printed = e })
+  kept-print reading o (reports.None why) position so first told least e c = search rules
   kept-print reading o (reports.Ticks low high) None so first told least e c = absurd c
   kept-print reading None (reports.Ticks low high) (Some position) so first told least e c =
       absurd (let none = rw so at first in cc)
-  kept-print reading (Some answer) (reports.Ticks low high) (Some position) so first told least e c = inl (record {
-    response = answer;
-    narrowest = least;
-    low = low;
-    high = high;
-    position = position;
-    ticks = rw so at first;
-    assigned = told;
-    not_below = c.0;
-    not_above = c.1;
-    is_printed = e;
-  })
+  kept-print reading (Some answer) (reports.Ticks low high) (Some position) so first told least e c =
+      let ticks = rw so at first in inl (search rules)
 
   -- so it is at each verb
   kept-by : (verb : Verb) → now.line.verb ≡ verb → IsTrueLine header older now
@@ -89,10 +77,6 @@ module _ (header : Header) (older : List Numbered) (now : Numbered) (printed : L
       → KeepsLine header older now printed
   kept_line declared accepted e =
       let truth = accepted_lines_are_true header older now declared accepted in
-      record {
-        kept = kept-by now.line.verb refl truth
-            (printed_is header older now printed (carried_ok header older now printed e));
-        landing = truth.landing;
-        told = truth.told;
-        in_step = truth.in_step;
-      }
+      let is = printed_is header older now printed (carried_ok header older now printed e) in
+      let kept = kept-by now.line.verb refl truth is in
+      search rules

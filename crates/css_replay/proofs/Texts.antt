@@ -1,7 +1,7 @@
 -- How far texts are read, what is known of a schedule as far as it is read, what a line answers, and that what is
 -- printed for texts keeps the promise.
-use Rattle.std.proofs.Common.{◌≡◌, ◌≢◌, ℕ, zero, suc, ◌+◌, ◌-◌, arith, ap, subst, ◌∙◌, Bool, refl, List, [], ◌∷◌, ◌++◌}
-use Rattle.std.proofs.Common.{length, ◌==◌, ◌⊎◌, inl, inr, sym, rules}
+use Rattle.std.proofs.Common.{◌≡◌, ◌≢◌, ℕ, zero, suc, ◌+◌, arith, ap, subst, ◌∙◌, Bool, refl, List, [], ◌∷◌, ◌++◌}
+use Rattle.std.proofs.Common.{length, ◌==◌, ◌⊎◌, inl, inr, rules}
 use Rattle.std.specs.Int.{w8}
 use Rattle.std.specs.Prelude.{ℤ, pos, negsuc, ◌≤ℤ◌, FitsSigned, All, unwrap_or, slice_get, Result, Ok, Err, OnOk}
 use Rattle.std.specs.Prelude.{Option, Some, None}
@@ -90,17 +90,7 @@ local-good (companion ∷ list) (suc place) all = search (rules, local-good list
 -- a good header is whole
 header-whole : (number version : ℕ) (header : Header) → IsGoodHeader header → IsCount (length header.companions)
     → IsVersion version → FitsFirst (version == 1) (length header.companions) → IsWhole number header version []
-header-whole number version header good count known fits = record {
-  declared = record {
-    tv = good.0;
-    companions = count;
-    exponent = fits-exponent header.tv_precision good.1.least good.1.greatest;
-    local = λ who. local-good header.companions (who - 1) good.1.companions;
-  };
-  known = known;
-  fits = fits;
-  next = tt;
-}
+header-whole number version header good count known fits = search (rules, fits-exponent, local-good)
 
 -- the number after a line is next
 next-line : (number : ℕ) (older : List Numbered) (line : Result Line LineFault) → IsNext number older
@@ -116,14 +106,11 @@ well-after number Outset text well = by (header_of text) refl
     by (Err fault) is = tt
     by (Ok (One header)) is =
         let range : IsStart (One header) = start_in_range text (Ok (One header)) is in
-        let one = range.1 in
-        header-whole (suc number) 1 header (range.0, range.2)
-        (record { low = omega (arith, one); high = omega (arith, one) }) (omega arith, omega arith) one
+        header-whole (suc number) 1 header (range.0, range.2) (search rules) (search rules) range.1
     by (Ok (Two header count)) is =
         let range : IsStart (Two header count) = start_in_range text (Ok (Two header count)) is in
         let empty : length header.companions ≡ 0 = ap length range.1 in
-        let low = range.2.low in
-        record { good = range.0; more = omega (arith, empty, low); few = range.2.high }
+        search rules
 well-after number (Opening header count) text part = by (next_companion header text) refl
   where
     by : (read : Result CompanionLine LineFault) → next_companion header text ≡ read
@@ -134,30 +121,23 @@ well-after number (Opening header count) text part = by (next_companion header t
         let good = more_companions header companion part.good
         (companion_in_range (length header.companions + 1) text (Ok companion) is) in
         let longer = length-append header.companions (companion ∷ []) in
-        let within : IsCount (length more.companions) =
-        record { low = omega (arith, longer); high = omega (arith, longer, part.more, part.few) } in
         on_grown (IsWell (suc number)) more count
-        (λ all. header-whole (suc number) 2 more good within (omega arith, omega arith) within)
-        (λ apart. record { good = good; more = omega (arith, longer, part.more, apart); few = part.few })
-well-after number (Running header version lines) text well = record {
-  declared = well.declared;
-  known = well.known;
-  fits = well.fits;
-  next = next-line number lines (line_in version (length header.companions) text) well.next;
-}
+        (λ all. header-whole (suc number) 2 more good (search rules) (search rules) (search rules))
+        (λ apart. search rules)
+well-after number (Running header version lines) text well = search (rules, next-line)
 well-after number Unread text well = tt
 
 -- and with several
 well-from : (number : ℕ) (extent : Extent) (texts : List (List ℕ)) → IsWell number extent
     → IsWell (number + length texts) (read_from number extent texts)
-well-from number extent [] well = let same : number + 0 ≡ number = omega arith in rw same well
+well-from number extent [] well = search rules
 well-from number extent (t ∷ texts) well =
-    let same : number + length (t ∷ texts) ≡ suc number + length texts = omega arith in
-    rw same (well-from (suc number) (after number extent t) texts (well-after number extent t well))
+    let rest = well-from (suc number) (after number extent t) texts (well-after number extent t well) in
+    grind (arith, common_steps)
 
 -- so it is of any schedule, and the number of a text is above those of the lines before it
 pub well : (texts : List (List ℕ)) → IsWell (length texts + 1) (reached texts)
-well texts = let same : length texts + 1 ≡ 1 + length texts = omega arith in rw same (well-from 1 Outset texts tt)
+well texts = let all = well-from 1 Outset texts tt in grind (arith, common_steps)
 
 -- ---- what is answered
 -- a line that was carried out, or was not, answers what is meant
@@ -184,7 +164,8 @@ module _ {world : World} {version companions : ℕ} (texts : List (List ℕ))
       → LeavesBy Memory result old new
       (appended old (line_meant world.header runs.lines (record { number = length texts + 1; line = line })))
       → Answers (meant_at (length texts + 1) (reached texts) text) old new (told_of result)
-  answers text result read left = rw (runs.is, ← runs.count, read) (answered (line_meant world.header runs.lines _) _ _ result left)
+  answers text result read left =
+      rw (runs.is, ← runs.count, read) (answered (line_meant world.header runs.lines _) _ _ result left)
 
   -- the lines go on with it, once it was carried out
   pub goes-on : {after : World} {line : Line} (text : List ℕ) → line_in version companions text ≡ Ok line
@@ -192,14 +173,7 @@ module _ {world : World} {version companions : ℕ} (texts : List (List ℕ))
       → StandsFor after (record { number = length texts + 1; line = line } ∷ runs.lines)
       → RunsAt after version companions (reached (texts ++ text ∷ []))
   goes-on {line = line} text read header stands =
-      let lines : List Numbered = record { number = length texts + 1; line = line } ∷ runs.lines in
-      rw (reached-push texts text, runs.is, ← runs.count, read)
-      (record {
-        lines = lines;
-        is = ap (λ (h : Header). Running h version lines) (sym header);
-        count = runs.count ∙ ap (λ (h : Header). length h.companions) (sym header);
-        stands = stands;
-      })
+      rw (reached-push texts text, runs.is, ← runs.count, read) (search rules)
 
 -- a line of either version is one of so many companions, or the television's alone
 pub of-second : (first : Bool) (count : ℕ) (line : Line) → FitsFirst first count → IsOf first count line
@@ -226,7 +200,8 @@ taken-at : (number : ℕ) (extent : Extent) (text sofar printed : List ℕ) → 
     → meant_at number extent text ≡ Ok printed → TakenAt (after number extent text) (sofar ++ printed)
 taken-at number Outset text sofar printed well taken e = grind (arith, common_steps)
 taken-at number (Opening header count) text sofar printed well taken e = grind (arith, common_steps)
-taken-at number (Running header version lines) text sofar printed well taken e = by (line_in version (length header.companions) text) refl e
+taken-at number (Running header version lines) text sofar printed well taken e =
+    by (line_in version (length header.companions) text) refl e
   where
     by : (read : Result Line LineFault) → line_in version (length header.companions) text ≡ read
         → read_meant header lines number read ≡ Ok printed
@@ -258,13 +233,10 @@ finishes : (before : List (List ℕ)) → (verdict : Option (ℕ × Refusal Caus
     × (finish_outcome replayed before ≡ record { printed = []; verdict = verdict })
 finishes before = by (reached before)
   where
-    number : ℕ
-    number = length before + 1
-
     by : (extent : Extent) → (verdict : Option (ℕ × Refusal Cause))
-        × (reader_outcome number (ended_at extent) ≡ record { printed = []; verdict = verdict })
+        × (reader_outcome (length before + 1) (ended_at extent) ≡ record { printed = []; verdict = verdict })
     by (Running header version lines) = (None, refl)
-    by _ = (Some (number, Refused Form), refl)
+    by _ = (Some (length before + 1, Refused Form), refl)
 
 -- what was taken keeps the promise
 promise_of : (bytes : List ℕ) (texts rest : List (List ℕ)) (printed : List ℕ) → lines_of bytes ≡ texts ++ rest
@@ -274,17 +246,8 @@ promise_of bytes texts rest printed parts taken =
   where
     by : (extent : Extent) → reached texts ≡ extent → IsWell (length texts + 1) extent → TakenAt extent printed
         → (printed ≡ []) ⊎ PromiseKept bytes printed
-    by (Running header version lines) is well t = inr (record {
-      texts = texts;
-      rest = rest;
-      are_lines = parts;
-      header = header;
-      version = version;
-      lines = lines;
-      is_read = is;
-      world = accepted_lines_are_world header lines well.declared t.0;
-      kept = t.1;
-    })
+    by (Running header version lines) is well t =
+        let world = accepted_lines_are_world header lines well.declared t.0 in inr (search rules)
     by Unread is well t = absurd t
     by _ is well t = inl t
 
@@ -309,21 +272,12 @@ front_keeps bytes front whole prefix keeps = (keeps.0, prefix_trans front whole 
 pub promised_done : {left_old left_new holds_old holds_new : Option (List ℕ)} {lines : Replay}
     → Finishes replayed Stands left_old left_new holds_old holds_new lines
     → Promised left_old left_new holds_old holds_new
-promised_done f = record {
-  read = f.read;
-  printed = f.printed;
-  took = f.took;
-  grew = f.grew;
-  keeps = keeps_done replayed KeepsPromise so_far in_all front_keeps f.read f.printed f.all;
-}
+promised_done f =
+    let keeps = keeps_done replayed KeepsPromise so_far in_all front_keeps f.read f.printed f.all in search rules
 
 -- also where it stopped
 pub promised_stop : {left_old left_new holds_old holds_new : Option (List ℕ)} (stop : Stop Cause)
     → Stops replayed left_old left_new holds_old holds_new stop → Promised left_old left_new holds_old holds_new
-promised_stop {left_new = left_new} stop s = record {
-  read = s.read;
-  printed = s.printed;
-  took = s.took;
-  grew = s.grew;
-  keeps = keeps_stop replayed KeepsPromise so_far in_all front_keeps s.read s.printed left_new stop s.ends;
-}
+promised_stop {left_new = left_new} stop s =
+    let keeps = keeps_stop replayed KeepsPromise so_far in_all front_keeps s.read s.printed left_new stop s.ends in
+    search rules

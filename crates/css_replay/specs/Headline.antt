@@ -94,9 +94,8 @@ AreKept header (now ∷ older) printed =
     (before : List ℕ) × (last : List ℕ) × (printed ≡ before ++ last) × KeepsLine header older now last
     × AreKept header older before
 
--- This is what is printed for lines of the schedule, and for each of these it keeps the promise. They are the lines
--- after its header, as far as it was read. They are a world that keeps the declared errors and explains what each
--- companion did.
+-- This is printed for lines of the schedule, and for each of these it keeps the promise. They are the lines after its
+-- header, as far as it was read. They are a world that keeps the declared errors and explains what each companion did.
 pub record PromiseKept (bytes printed : List ℕ) : Type 0 where
   pub texts : List (List ℕ)
   pub rest : List (List ℕ)

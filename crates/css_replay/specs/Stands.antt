@@ -1,6 +1,6 @@
 -- How the reader of a replay stands for the lines that it has taken.
-use Rattle.std.specs.Prelude.{ℕ, ◌≡◌, ◌<◌, ◌≤◌, ◌==◌, if◌then◌else◌, List, [], length, Option, Some, None, Result, Ok, Err}
-use Rattle.std.specs.Prelude.{MatchResult}
+use Rattle.std.specs.Prelude.{ℕ, ◌≡◌, ◌<◌, ◌≤◌, ◌==◌, if◌then◌else◌, List, [], length, Option, Some, None, Result}
+use Rattle.std.specs.Prelude.{Ok, Err, MatchResult}
 use Rattle.css_lines.specs.Answers.{MayFault}
 use Rattle.css_lines.specs.declared.reader.LineFault as engine
 use Rattle.css_lines.specs.declared.reader.LineFault.TheVariants as told

@@ -19,10 +19,6 @@ returns-in-Err-Memory g c =
     let w = rw c.in-Err-Memory.field-0-is at (c.in-Err-Memory.ensures _ c.header_of.ensures) in
     record { recorded = unbegun tt w.wrote; net_faults = refl; write_faults = w.counted; dial_faults = search rules }
 
-pub drive-requires-clause-begun : goal.drive-requires-clause-begun
-drive-requires-clause-begun g c =
-    record { name = refl; writes = record { wrote = Appends-nil _; counted = refl } }
-
 pub returns : goal.returns
 returns g c =
     let run = c.drive.ensures in

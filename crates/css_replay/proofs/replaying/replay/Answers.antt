@@ -1,10 +1,9 @@
 -- What a replay adds to the sink keeps the promise, however it ends.
-use Rattle.std.proofs.Common.{ℕ}
+use Rattle.std.proofs.Common.{ℕ, arith}
+use Rattle.std.proofs.lemmas.Grind.{common_steps}
 use Rattle.css_lines.specs.declared.reader.Refusal.{Refusal}
-use Rattle.css_lines.specs.declared.reader.Refusal.TheVariants.{Refused}
 use Rattle.css_replay.specs.Ended.{replay_refused}
 use Rattle.css_replay.specs.declared.reader.Cause.{Cause}
-use Rattle.css_replay.specs.declared.reader.Cause.TheVariants as causes
 use Rattle.css_replay.proofs.OverLines.{IsOfLine, done_ends, read_all, stop_ends, stopped}
 use Rattle.css_replay.proofs.Texts.{promised_done, promised_stop}
 use Rattle.css_replay.proofs.replaying.replay.Goals as goal
@@ -21,8 +20,7 @@ returns-in-Ok g c =
     }
 
 of_line : (line : ℕ) (why : Refusal Cause) → IsOfLine (replay_refused line why)
-of_line line (Refused causes.Form) = tt
-of_line line _ = tt
+of_line line why = grind (arith, common_steps)
 
 pub returns-in-Err : goal.returns-in-Err
 returns-in-Err g c =

@@ -1,7 +1,5 @@
-use Rattle.std.proofs.Common.{◌≡◌, [], false, ap, eqb, length, refl, rules, sym}
+use Rattle.std.proofs.Common.{◌≡◌, false, eqb, length, refl, rules}
 use Rattle.std.proofs.lemmas.Bool.{eq-eqb, ne_eqb}
-use Rattle.css_schedule.specs.declared.header.Header.{Header}
-use Rattle.css_replay.specs.Replayed.{Running}
 use Rattle.css_replay.proofs.Texts.{well-after}
 use Rattle.css_replay.proofs.reader.Replay.open.Goals as goal
 
@@ -23,18 +21,9 @@ returns-then-len-heading-clause-reads c = λ extent is number.
     let heading = c.in_ok-heading.heading in
     let next = c.in_ok-heading.ensures extent (rw c.take.ensures.value is) number in
     let whole : length heading.header.companions ≡ heading.companions = cc in
-    let header = c.in_ok-new.ensures.header in (
-      next.0,
-      record {
-        version = next.1.1;
-        at = rw (next.1.0, eq-eqb _ _ whole) (record {
-          lines = [];
-          is = ap (λ (h : Header). Running h heading.version []) (sym header);
-          count = cc;
-          stands = c.in_ok-new.ensures.stands;
-        });
-      },
-    )
+    let header = c.in_ok-new.ensures.header in
+    let stands = c.in_ok-new.ensures.stands in
+    (next.0, record { version = next.1.1; at = rw (next.1.0, eq-eqb _ _ whole) (search rules) })
 
 pub returns-clause-reads : goal.returns-clause-reads
 returns-clause-reads c = λ extent is number.

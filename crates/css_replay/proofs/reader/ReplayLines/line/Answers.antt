@@ -46,7 +46,8 @@ returns-in-Ok-read_line-clause-stands c =
     let runs = rw c.in-Some.is at stands.at.at in
     let number : c.args.number ≡ length before + 1 = omega (arith, stands.last, c.requires.1.last, c.requires.2) in
     let went = c.line.ensures.stands runs.lines runs.stands (rw number (whole before runs).next) in
-    let next = goes-on before runs _ c.in-Ok-read_line.ensures.value c.line.ensures.header (rw (done, number) at went) in
+    let next =
+    goes-on before runs _ c.in-Ok-read_line.ensures.value c.line.ensures.header (rw (done, number) at went) in
     record {
       last = omega (arith, number, length-append before (c.args.text.now ∷ []));
       at = record { version = rw next.is refl; at = next };
