@@ -3,7 +3,7 @@
 use Rattle.std.proofs.Common.{◌≡◌, ℕ, ◌+◌, ◌≤◌, ◌<◌, Bool, false, true, cond, List, [], ◌∷◌, ◌++◌, Option, Some, None}
 use Rattle.std.proofs.Common.{refl, sym, ap, ap₂, subst, ◌∙◌, arith, append_assoc, drop, Result, Ok, Err, length}
 use Rattle.std.proofs.Common.{get_or, inl, inr, ◌⊎◌}
-use Rattle.std.specs.Prelude.{◌≢◌, ◌&&◌, ⊤, is_some, ◌↔◌, MatchResult, filter, IfSome}
+use Rattle.std.specs.Prelude.{◌≢◌, ◌&&◌, ⊤, is_some, ◌↔◌, filter, IfSome}
 use Rattle.std.specs.Option.{option_map, option_to_list}
 use Rattle.std.proofs.lemmas.List.Elements.{All-nil, All-push}
 use Rattle.std.specs.List.{remove}
@@ -11,15 +11,14 @@ use Rattle.std.proofs.lemmas.Bool.Decides.{nat_tests}
 use Rattle.std.proofs.lemmas.Grind.{common_steps}
 use Rattle.css_model.specs.Wire.{encoded}
 use Rattle.css_model.specs.declared.Kind.{Kind as PeerKind}
-use Rattle.css_model.specs.declared.Kind.TheVariants as peer_kind
 use Rattle.css_model.specs.declared.Why.{Why}
 use Rattle.css_model.specs.declared.Why.TheVariants as why
-use Rattle.css_model.specs.History.{History, Listening, Accepted, Clock, Sent}
+use Rattle.css_model.specs.History.{History, Listening, Accepted, Clock}
 use Rattle.css_num.specs.declared.protocol.Kind.{Kind}
-use Rattle.css_num.specs.declared.protocol.Kind.TheVariants as kind
 use Rattle.css_outside.specs.Faults.{CountsOutFault}
+use Rattle.css_outside.specs.declared.calls.Clocked.{Clocked}
 use Rattle.css_outside.specs.declared.fault.OutFault.{OutFault}
-use Rattle.css_outside.specs.Outsides.{Counts, CountsPlain, with_entries, clock_entries}
+use Rattle.css_outside.specs.Outsides.{Counts, CountsPlain, CountsOpening, with_entries, clock_entries}
 use Rattle.css_server.specs.Tickets.{Server, Ticket, response_to, follow_up_for}
 use Rattle.css_sessions.specs.Kept.{Kept, talk_of}
 use Rattle.css_sessions.specs.Told.{sessions_of, life_of}
@@ -42,7 +41,7 @@ use Rattle.css_drive.specs.Proper.{Due, Now, TakeDatagram, MayAdd, Empty, More, 
 use Rattle.css_drive.specs.Ends.{MayEnd, CountsNetFault}
 use Rattle.css_drive.specs.TvProgress.{Place, Listens, Turned, Received, Answers, Served, Asked, Progress, settled}
 use Rattle.css_drive.specs.TvProgress.{settled_at, carry, with_line, is_free, is_due, addresses_in, progress_of, after}
-use Rattle.css_drive.specs.TvProgress.{beginning, happened, opened, answering, outcome_after, outs_in, played}
+use Rattle.css_drive.specs.TvProgress.{beginning, happened, opened, outcome_after, outs_in, played}
 use Rattle.css_drive.specs.TvProgress.{played_if, event_of}
 use Rattle.css_drive.specs.TvTurns.{since, begun, goes_on, is_over, no_turns}
 use Rattle.css_drive.specs.TvDue.{TvRun, due, due_for, from_hang_ups, due_at}
@@ -89,20 +88,10 @@ numbered_on n [] h none known = known
 numbered_on n (Accepted peer kind ∷ call) h none known = absurd none
 numbered_on n (_ ∷ call) h none known = numbered_on n call h none known
 
-accepts_none : (w : Why) (reading : ℕ) (slept : Bool)
-    → AcceptsNone (clock_entries w (record { reading = reading; slept = slept }))
-accepts_none w reading true = tt
-accepts_none w reading false = tt
-
 -- how far entries bring a run
 abbrev pub after_all : Addresses → History → Progress → Progress
 after_all a [] p = p
 after_all a (entry ∷ older) p = after a entry (after_all a older p)
-
-after_read : (a : Addresses) (w : Why) (reading : ℕ) (slept : Bool) (p : Progress)
-    → after_all a (clock_entries w (record { reading = reading; slept = slept })) p ≡ after a (Clock w reading) p
-after_read a w reading true p = refl
-after_read a w reading false p = refl
 
 progress_more : (run : TvRun) (call h : History)
     → progress_of run (call ++ h) ≡ after_all (addresses_in run.config) call (progress_of run h)
@@ -196,10 +185,6 @@ module _ {from : From} {now : Shown} {air : OnAir} {to : List TvEvent → Progre
         knows = subst (λ n. Knows air.peers.items n (live_after from x.events)) (sym added.peers) x.knows;
       }
 
-  -- The run ends for want of memory.
-  pub lacks_memory : Stops from now driven.Memory
-  lacks_memory = stops x.history refl refl driven.Memory tt tt refl (λ e. cc)
-
   -- whether a session is open
   sessions_same : air.tv.stage.sessions ≡ sessions_of (calls_of (addresses_in from.run.config) x.events).sessions
   sessions_same =
@@ -218,13 +203,6 @@ module _ {from : From} {now : Shown} {air : OnAir} {to : List TvEvent → Progre
       ap₂ (λ (pl : Player) (k : Kept). outcome stage.addresses e pl k) x.stage.player.same x.stage.sessions.same
       ∙ ap (λ (a : Addresses). outcome a e (player_after a x.events) (sessions_of (calls_of a x.events).sessions))
       x.addresses
-
--- A part ends with a call.
-pub ends_with : {T : Type 0} {from : From} {now : Shown} {p : Progress} {h : History} (P Q : T → Type 0) (next : Shown)
-    → Told from now p h → (result : Result T Driven) → MatchResult result P (Fails now next)
-    → ((value : T) → P value → Q value) → MatchResult result Q (Stops from next)
-ends_with P Q next t (Ok value) call there = there value call
-ends_with P Q next t (Err ended) call there = call _ _ _ t
 
 -- A call failed, by which no session comes.
 pub failed : {T : Type 0} {from : From} {now next : Shown} {p : Progress} {h : History} {fault : OutFault}
@@ -247,11 +225,14 @@ pub read_on : {from : From} {now next : Shown} {air : OnAir} {to : List TvEvent 
     → (x : Airs from now air to) → (w : Why) → due_for from.run (to x.events) ≡ Now w → (reading : ℕ)
     → IsRead w now next reading
     → Airs from next air (λ events. after (addresses_in from.run.config) (Clock w reading) (to events))
-read_on {from} {to = to} x w d reading read =
-    let call = clock_entries w (record { reading = reading; slept = read.0 }) in
-    let y = moved x call (accepts_none w reading read.0)
-    (subst (λ due. MayAdd due call) (sym d) (record { reading = reading; slept = read.0 }, refl)) read.1 in
-    airs_as y refl refl (after_read (addresses_in from.run.config) w reading read.0 (to y.events))
+read_on x w d reading (true, added) =
+    let clocked : Clocked = record { reading = reading; slept = true } in
+    moved x (clock_entries w clocked) tt
+    (subst (λ due. MayAdd due (clock_entries w clocked)) (sym d) (clocked, refl)) added
+read_on x w d reading (false, added) =
+    let clocked : Clocked = record { reading = reading; slept = false } in
+    moved x (clock_entries w clocked) tt
+    (subst (λ due. MayAdd due (clock_entries w clocked)) (sym d) (clocked, refl)) added
 
 -- ---- an event
 -- one that opens no session is told
@@ -304,16 +285,6 @@ pub not_open : (r b : Bool) → ((r ≡ true) ↔ (b ≡ true)) → r ≡ false 
 not_open r false i e = refl
 not_open r true i e = absurd (let f : r ≡ true = i.1 refl in cc)
 
--- the kind of a session that was accepted
-abbrev pub peer_kind_of : Kind → PeerKind
-peer_kind_of kind.Cii = peer_kind.Cii
-peer_kind_of kind.Ts = peer_kind.Ts
-
-opened_so : (a : Addresses) (peer : ℕ) (k : Kind) (p : Progress)
-    → opened a peer (peer_kind_of k) p ≡ happened a (event.Opened peer k) p
-opened_so a peer kind.Cii p = refl
-opened_so a peer kind.Ts p = refl
-
 module _ {from : From} {now : Shown} {air : OnAir} where
   -- a peer above the greatest has no session
   pub unused_of : {to : List TvEvent → Progress} → Airs from now air to → IsUnused now air.tv
@@ -326,21 +297,25 @@ module _ {from : From} {now : Shown} {air : OnAir} where
       (lists.below_live peer xs live (lists.below_next now.counts.peers peer xs lt x.knows.below) x.knows.covers))
 
   -- a session comes
-  pub welcomes : {next : Shown} → IsAt Served from now air → (peer : ℕ) (k : Kind)
-      → next.told ≡ with_entries (Accepted peer (peer_kind_of k) ∷ []) now.told
-      → next.counts.dial_faults ≡ now.counts.dial_faults → next.counts.faults ≡ now.counts.faults
-      → now.counts.peers < peer → next.counts.peers ≡ peer → Welcomes peer k from next air
-  welcomes {next} x peer k told dials faults lt is =
+  pub welcomes : {next : Shown} → IsAt Served from now air → (peer : ℕ) (kind : PeerKind) (k : Kind)
+      → (let a = addresses_in from.run.config in
+      (p : Progress) → opened a peer kind p ≡ happened a (event.Opened peer k) p)
+      → next.told ≡ with_entries (Accepted peer kind ∷ []) now.told
+      → CountsOpening now.counts next.counts (Ok (Some (peer, kind))) → Welcomes peer k from next air
+  welcomes {next} x peer kind k so told counted =
+      let lt : now.counts.peers < peer = counted.peer.0 in
+      let is : next.counts.peers ≡ peer = counted.peer.1 in
       let a = addresses_in from.run.config in
-      let call = Accepted peer (peer_kind_of k) ∷ [] in
+      let call = Accepted peer kind ∷ [] in
       let xs = air.peers.items in
       let before = lists.below_next now.counts.peers peer xs lt x.knows.below in
       let below : AreBelow peer x.h = below_later _ _ x.h (omega (arith, lt)) x.history.below in
       let t : Told from next (happened a (event.Opened peer k) (progress_at from.run air (Asked None) [] x.events))
       (call ++ x.h) =
-      told_as _ (told_more x.history call (Some (peer, peer_kind_of k), refl) told dials faults
+      told_as _ (told_more x.history call (Some (peer, kind), refl) told
+      (ap (λ (y : Counts). y.dial_faults) counted.same) counted.faults
       (below, x.history.numbered) (omega (arith, is), below_later _ _ x.h (omega (arith, lt, is)) x.history.below))
-      (opened_so a peer k (progress_at from.run air (Asked None) [] x.events)) in
+      (so (progress_at from.run air (Asked None) [] x.events)) in
       record {
         p = _;
         h = call ++ x.h;
@@ -392,11 +367,6 @@ module _ {from : From} {now : Shown} {air : OnAir} where
       airs_as y refl refl (ap₂ (λ (d : List ℕ) (o : Option (List ℕ)).
       progress_at from.run air (Answers peer (d ∷ option_to_list o)) [] y.events) (sym e) (sym f))
 
-  pub datagram_sent : {next : Shown} {peer : ℕ} {bytes : List ℕ} {rest : List (List ℕ)}
-      → IsAt (Answers peer (bytes ∷ rest)) from now air → Adds now next (Sent peer bytes ∷ [])
-      → IsAt (answering peer rest) from next air
-  datagram_sent {peer = peer} {bytes = bytes} x added = moved x (Sent peer bytes ∷ []) tt refl added
-
   -- ---- turns
   -- one begins
   pub turn_begins : {next : Shown} → Comes at_end from now air → goes_on air.turns ≡ true → (reading : ℕ)
@@ -433,7 +403,8 @@ at_first run start = record {
   same None = refl
   same (Some h) = refl
 
-module _ (run : TvRun) {start now : Shown} (added : Adds start now (Listening run.config.host run.config.port ∷ [])) where
+module _ (run : TvRun) {start now : Shown}
+    (added : Adds start now (Listening run.config.host run.config.port ∷ [])) where
   pub listens : Told (started run start) now (record (beginning run) { place = Listens })
       (Listening run.config.host run.config.port ∷ [])
   listens = told_more (at_first run start) (Listening run.config.host run.config.port ∷ []) refl added.told added.dials

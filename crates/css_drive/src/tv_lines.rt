@@ -11,7 +11,7 @@ ghost use Rattle.css_drive.specs.declared.on_air.OnAir.{OnAir as Loop};
 
 use crate::driven::Driven;
 use crate::on_air::OnAir;
-use crate::tv_outputs::put_all;
+use crate::tv_calls::put_all;
 use css_model::LIMIT;
 use css_num::Memory;
 use css_outside::Outside;

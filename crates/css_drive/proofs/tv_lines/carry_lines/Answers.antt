@@ -17,25 +17,22 @@ returns-then-reading-from-clause-goes g c from script s =
 
 pub returns-in_err-carry_out-clause-goes : goal.returns-in_err-carry_out-clause-goes
 returns-in_err-carry_out-clause-goes g c from script s =
-    let later = c.if-reading-from.false in
     at_err _ _ _ _ c.from_residual.ensures.1 (c.in_err-carry_out.ensures from c.lines.air refl
     (carries c.args.reading (c.lines.invariant.goes from script s) c.args.script.now script
     c.index-script-air.result c.lines-test.true c.index-script-air.is c.since-from.result
-    (ap since c.lines.invariant.turns ∙ sym c.since-from.ensures.value) (omega (arith, later))))
+    (ap since c.lines.invariant.turns ∙ sym c.since-from.ensures.value) (omega (arith, c.if-reading-from.false))))
 
 pub lines-preserved : goal.lines-preserved
 lines-preserved g c = record {
   goes = λ from script s.
-      let later = c.if-reading-from.false in
       c.in_ok-carry_out.ensures from c.lines.air refl
       (carries c.args.reading (c.lines.invariant.goes from script s) c.args.script.now script
       c.index-script-air.result c.lines-test.true c.index-script-air.is c.since-from.result
-      (ap since c.lines.invariant.turns ∙ sym c.since-from.ensures.value) (omega (arith, later)));
+      (ap since c.lines.invariant.turns ∙ sym c.since-from.ensures.value) (omega (arith, c.if-reading-from.false)));
   turns = c.lines.invariant.turns;
 }
 
 pub returns-clause-goes : goal.returns-clause-goes
 returns-clause-goes g c from script s =
-    let over = c.lines-test.false in
     no_line c.args.reading (c.lines.invariant.goes from script s)
-    (ap (drop c.lines.air.lines) script ∙ peers_all c.args.script.now c.lines.air.lines (omega (arith, over)))
+    (ap (drop c.lines.air.lines) script ∙ peers_all c.args.script.now c.lines.air.lines (omega (arith, c.lines-test.false)))

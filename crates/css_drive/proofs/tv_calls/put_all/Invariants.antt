@@ -3,7 +3,7 @@ use Rattle.css_drive.specs.CompanionStanding.{shown}
 use Rattle.css_drive.specs.TvProgress.{Place}
 use Rattle.css_drive.specs.TvStanding.{From, Settles, with_tv}
 use Rattle.css_drive.specs.declared.on_air.OnAir.{OnAir}
-use Rattle.css_drive.proofs.tv_outputs.put_all.Given as goal
+use Rattle.css_drive.proofs.tv_calls.put_all.Given as goal
 
 abbrev pub invariant-outs : goal.invariant-outs
 invariant-outs g l = (from : From) (air : OnAir) (place : Place)

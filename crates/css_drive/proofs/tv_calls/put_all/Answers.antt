@@ -4,7 +4,7 @@ use Rattle.std.proofs.lemmas.List.{reverse-append}
 use Rattle.std.proofs.lemmas.Grind.{common_steps}
 use Rattle.css_drive.proofs.CompanionSteps.{at_err}
 use Rattle.css_drive.proofs.TvSteps.{owing}
-use Rattle.css_drive.proofs.tv_outputs.put_all.Goals as goal
+use Rattle.css_drive.proofs.tv_calls.put_all.Goals as goal
 
 pub returns-in_err-put_one : goal.returns-in_err-put_one
 returns-in_err-put_one g c from air place s =

@@ -1,5 +1,5 @@
 use Rattle.css_drive.proofs.TvSteps.{heard_of}
-use Rattle.css_drive.proofs.tv_outputs.play.Goals as goal
+use Rattle.css_drive.proofs.tv_calls.play.Goals as goal
 
 pub returns-in-Ok : goal.returns-in-Ok
 returns-in-Ok g c from air place x =
