@@ -19,7 +19,7 @@ use Rattle.css_outside.specs.Faults.{CountsOutFault}
 use Rattle.css_outside.specs.declared.calls.Clocked.{Clocked}
 use Rattle.css_outside.specs.declared.fault.OutFault.{OutFault}
 use Rattle.css_outside.specs.Outsides.{Counts, CountsPlain, CountsOpening, with_entries, clock_entries}
-use Rattle.css_server.specs.Tickets.{Server, Ticket, response_to, follow_up_for}
+use Rattle.css_server.specs.Tickets.{Ticket, response_to, follow_up_for}
 use Rattle.css_sessions.specs.Kept.{Kept, talk_of}
 use Rattle.css_sessions.specs.Told.{sessions_of, life_of}
 use Rattle.css_player.specs.Player.{Player}
@@ -154,17 +154,23 @@ adds told k = record {
 }
 
 module _ {from : From} {now : Shown} {air : OnAir} {to : List TvEvent → Progress} (x : Airs from now air to) where
-  -- with other values of the loop, and where more is known of how far it has come
-  airs_by : {air' : OnAir} {to' : List TvEvent → Progress} → air'.tv.stage ≡ air.tv.stage
-      → air'.peers.items ≡ air.peers.items → Told from now (to' x.events) x.h → Airs from now air' to'
-  airs_by stage items t = record {
+  -- with other values of the loop, and where more is told
+  abbrev airs_with : {next : Shown} {air' : OnAir} {to' : List TvEvent → Progress} {h : History}
+      → air'.tv.stage ≡ air.tv.stage → Told from next (to' x.events) h
+      → Knows air'.peers.items next.counts.peers (live_after from x.events) → Airs from next air' to'
+  airs_with {h = h} stage t knows = record {
     events = x.events;
-    h = x.h;
+    h = h;
     history = t;
     addresses = ap (λ s. s.addresses) stage ∙ x.addresses;
     stage = subst (λ s. StandsFor s x.events) (sym stage) x.stage;
-    knows = subst (λ xs. Knows xs now.counts.peers (live_after from x.events)) (sym items) x.knows;
+    knows = knows;
   }
+
+  airs_by : {air' : OnAir} {to' : List TvEvent → Progress} → air'.tv.stage ≡ air.tv.stage
+      → air'.peers.items ≡ air.peers.items → Told from now (to' x.events) x.h → Airs from now air' to'
+  airs_by stage items t =
+      airs_with stage t (subst (λ xs. Knows xs now.counts.peers (live_after from x.events)) (sym items) x.knows)
 
   pub airs_as : {air' : OnAir} {to' : List TvEvent → Progress} → air'.tv.stage ≡ air.tv.stage
       → air'.peers.items ≡ air.peers.items → to x.events ≡ to' x.events → Airs from now air' to'
@@ -175,15 +181,9 @@ module _ {from : From} {now : Shown} {air : OnAir} {to : List TvEvent → Progre
       → Adds now next call → Airs from next air (λ events. after_all (addresses_in from.run.config) call (to events))
   moved {next} call none may added =
       let known = numbered_on (now.counts.peers + 1) call x.h none (x.history.numbered, x.history.below) in
-      record {
-        events = x.events;
-        h = call ++ x.h;
-        history = told_more x.history call may added.told added.dials added.faults known.0
-            (subst (λ n. AreBelow (n + 1) (call ++ x.h)) (sym added.peers) known.1);
-        addresses = x.addresses;
-        stage = x.stage;
-        knows = subst (λ n. Knows air.peers.items n (live_after from x.events)) (sym added.peers) x.knows;
-      }
+      airs_with refl (told_more x.history call may added.told added.dials added.faults known.0
+      (subst (λ n. AreBelow (n + 1) (call ++ x.h)) (sym added.peers) known.1))
+      (subst (λ n. Knows air.peers.items n (live_after from x.events)) (sym added.peers) x.knows)
 
   -- whether a session is open
   sessions_same : air.tv.stage.sessions ≡ sessions_of (calls_of (addresses_in from.run.config) x.events).sessions
@@ -321,20 +321,14 @@ module _ {from : From} {now : Shown} {air : OnAir} where
         h = call ++ x.h;
         history = t;
         happens = λ now' items. record {
-          airs = record {
-            events = x.events;
-            h = call ++ x.h;
-            history = t;
-            addresses = x.addresses;
-            stage = x.stage;
-            knows = subst (λ ys. Knows ys next.counts.peers (live_after from x.events)) (sym items) (record {
-              rising = lists.rising_last 0 peer xs x.knows.rising before (omega arith);
-              below = All-push (λ other. other ≤ next.counts.peers) xs peer
-                  (lists.below_later now.counts.peers next.counts.peers xs (omega (arith, lt, is)) x.knows.below)
-                  (omega (arith, is));
-              covers = lists.covers_unopened peer xs _ before x.knows.covers;
-            });
-          };
+          airs = airs_with x refl t (subst (λ ys. Knows ys next.counts.peers (live_after from x.events)) (sym items)
+              (record {
+                rising = lists.rising_last 0 peer xs x.knows.rising before (omega arith);
+                below = All-push (λ other. other ≤ next.counts.peers) xs peer
+                    (lists.below_later now.counts.peers next.counts.peers xs (omega (arith, lt, is)) x.knows.below)
+                    (omega (arith, is));
+                covers = lists.covers_unopened peer xs _ before x.knows.covers;
+              }));
           fresh = ap (λ (p : Progress). life_of peer (calls_of a p.events).sessions) (sym x.history.progress)
               ∙ (all_good from.run x.h x.history.proper x.history.numbered peer).unused below;
           covers = subst (λ ys. Covers ys (live_after from (event.Opened peer k ∷ x.events))) (sym items)
@@ -364,21 +358,19 @@ module _ {from : From} {now : Shown} {air : OnAir} where
       → IsAt (Answers peer (response ∷ option_to_list later)) from next air
   answer_read {peer = peer} x reading read response e later f =
       let y = read_on x why.Give refl reading read in
-      airs_as y refl refl (ap₂ (λ (d : List ℕ) (o : Option (List ℕ)).
-      progress_at from.run air (Answers peer (d ∷ option_to_list o)) [] y.events) (sym e) (sym f))
+      airs_as y refl refl (cc)
 
   -- ---- turns
   -- one begins
   pub turn_begins : {next : Shown} → Comes at_end from now air → goes_on air.turns ≡ true → (reading : ℕ)
       → IsRead why.Turn now next reading → (turns : Turns) → turns ≡ begun reading air.turns
-      → Settles (Turned reading) [] from next
-      (record { tv = air.tv; peers = air.peers; lines = air.lines; turns = turns })
+      → Settles (Turned reading) [] from next (record air { turns = turns })
   turn_begins x goes reading read turns is =
       let live = live_after from x.is_at.events in
       let y = read_on x.is_at why.Turn (x.next ∙ ap (λ b. cond b (Now why.Turn) (from_hang_ups live)) goes) reading
       read in
-      airs_as y refl refl (ap (λ (t : Turns). settled (addresses_in from.run.config) (progress_at from.run
-      (record { tv = air.tv; peers = air.peers; lines = air.lines; turns = t }) (Turned reading) [] y.events)) (sym is))
+      airs_as y refl refl (ap (λ (t : Turns). settled (addresses_in from.run.config)
+      (progress_at from.run (record air { turns = t }) (Turned reading) [] y.events)) (sym is))
 
   -- a datagram is taken, unless the turn is the last by its time
   pub may_take : IsTurned from now air → is_over air.turns ≡ false → Comes (λ _ live. TakeDatagram) from now air
@@ -419,15 +411,7 @@ module _ (run : TvRun) {start now : Shown}
       events = [];
       h = Listening run.config.host run.config.port ∷ [];
       history = told_as _ listens
-          (ap₂ (λ (s : Server) (t : Turns). record (beginning run) { place = Listens; server = s; turns = t })
-          (sym server) (sym turns)
-          ∙ ap (λ n. record (beginning run) {
-            place = Listens;
-            server = air.tv.server;
-            turns = air.turns;
-            lines = drop n run.script;
-            carried = n;
-          }) (sym zero));
+          (let left : drop air.lines run.script ≡ run.script = ap (λ n. drop n run.script) zero in cc);
       addresses = addresses;
       stage = stands;
       knows = subst (λ xs. Knows xs now.counts.peers []) (sym none)
@@ -443,13 +427,6 @@ left_at xs i x lt is = grind (arith, common_steps)
 
 pub peers_all : {X : Type 0} (xs : List X) (i : ℕ) → length xs ≤ i → drop i xs ≡ []
 peers_all xs i le = grind (arith, common_steps)
-
--- whether a line is due, by the number from which its time counts
-due_by : (from r : ℕ) (line : ScriptLine) (n : ℕ) → from ≡ n → n + line.due ≤ r → is_due from r line ≡ true
-due_by from r line n e le = ap (λ m. is_due m r line) e ∙ grind (arith, nat_tests)
-
-pub waits_by : (from r : ℕ) (line : ScriptLine) (n : ℕ) → from ≡ n → r < n + line.due → is_due from r line ≡ false
-waits_by from r line n e lt = ap (λ m. is_due m r line) e ∙ grind (arith, nat_tests)
 
 -- ---- a line that is due
 module _ {from : From} {now : Shown} {air : OnAir} {r : ℕ} {line : ScriptLine} (x : Carries r line from now air) where
@@ -507,35 +484,43 @@ module _ {from : From} {now : Shown} {air : OnAir} {r : ℕ} {line : ScriptLine}
       stops t refl refl _ (ap (due_for from.run) t.progress) tt refl (λ same. cc)
 
 -- ---- which line is next
-module _ {from : From} {now : Shown} {air : OnAir} (r : ℕ) (x : Settles (Turned r) [] from now air) where
-  -- one that is due, where the run's script is this one and its times count from this reading
-  pub carries : (script : List ScriptLine) → from.run.script ≡ script → (line : ScriptLine)
-      → air.lines < length script → line ≡ get_or script air.lines line
-      → (begun : ℕ) → since air.turns ≡ begun → begun + line.due ≤ r → Carries r line from now air
-  carries script e line lt is begun since_is le = record {
-    settles = x;
+-- where the run's script is this one
+module _ {from : From} {now : Shown} {air : OnAir} (r : ℕ) (x : Settles (Turned r) [] from now air)
+    (script : List ScriptLine) (e : from.run.script ≡ script) where
+  abbrev going_on : List ScriptLine → Progress
+  going_on lines = carry (addresses_in from.run.config) (since air.turns) r lines
+      (progress_at from.run air (Turned r) [] x.events)
+
+  pub no_line : length script ≤ air.lines → IsTurned from now air
+  no_line over = (r, airs_as x refl refl (ap going_on (ap (drop air.lines) e ∙ peers_all script air.lines over)))
+
+  -- this is the next one, and its time counts from this reading
+  module _ (line : ScriptLine) (lt : air.lines < length script) (is : line ≡ get_or script air.lines line)
+      (begun : ℕ) (since_is : since air.turns ≡ begun) where
+    next : drop air.lines from.run.script ≡ line ∷ drop (air.lines + 1) from.run.script
     next = ap (drop air.lines) e ∙ left_at script air.lines line lt is
-        ∙ ap (λ ls. line ∷ drop (air.lines + 1) ls) (sym e);
-    is_due = due_by (since air.turns) r line begun since_is le;
-  }
+        ∙ ap (λ ls. line ∷ drop (air.lines + 1) ls) (sym e)
 
-  -- a line that isn't due waits, and so do those after it
-  pub line_waits : (line : ScriptLine) (left : List ScriptLine) → drop air.lines from.run.script ≡ line ∷ left
-      → is_due (since air.turns) r line ≡ false → IsTurned from now air
-  line_waits line left next is =
-      let a = addresses_in from.run.config in
-      let p = progress_at from.run air (Turned r) [] x.events in (
-        r,
-        airs_as x refl refl (ap (λ ls. carry a (since air.turns) r ls p) next
-            ∙ ap (λ b. cond b (carry a (since air.turns) r left (with_line a r line left p)) p) is),
-      )
+    -- it is due
+    pub carries : begun + line.due ≤ r → Carries r line from now air
+    carries le = record {
+      settles = x;
+      next = next;
+      is_due = ap (λ m. is_due m r line) since_is ∙ grind (arith, nat_tests);
+    }
 
-  pub no_line : drop air.lines from.run.script ≡ [] → IsTurned from now air
-  no_line none = (
-    r,
-    airs_as x refl refl (ap (λ ls. carry (addresses_in from.run.config) (since air.turns) r ls
-        (progress_at from.run air (Turned r) [] x.events)) none),
-  )
+    -- it isn't, and so it waits, and those after it
+    pub line_waits : r < begun + line.due → IsTurned from now air
+    line_waits later =
+        let a = addresses_in from.run.config in
+        let left = drop (air.lines + 1) from.run.script in
+        let p = progress_at from.run air (Turned r) [] x.events in
+        let waits : is_due begun r line ≡ false = grind (arith, nat_tests) in (
+          r,
+          airs_as x refl refl (ap going_on next
+              ∙ ap (λ b. cond b (carry a (since air.turns) r left (with_line a r line left p)) p)
+              (ap (λ m. is_due m r line) since_is ∙ waits)),
+        )
 
 -- ---- the peers of sessions
 pub comes_as : {from : From} {now : Shown} {air : OnAir} {to to' : OnAir → List ℕ → Due} → (x : Comes to from now air)
@@ -562,10 +547,10 @@ module _ (f : Turns → List ℕ → List ℕ → Due) {from : From} {now : Show
 
   module _ (at : ℕ) (x : Comes (left_from f at) from now air) where
     -- no session is left
-    pub none_left : drop at air.peers.items ≡ [] → Comes (λ air live. f air.turns live []) from now air
-    none_left none =
+    pub none_left : length air.peers.items ≤ at → Comes (λ air live. f air.turns live []) from now air
+    none_left over =
         let live = live_after from x.is_at.events in
-        comes_as x (ap (λ xs. f air.turns live (filter (λ peer. has peer live) xs)) none)
+        comes_as x (ap (λ xs. f air.turns live (filter (λ peer. has peer live) xs)) (peers_all air.peers.items at over))
 
     -- that of this peer is the next one, if it has one
     pub next_left : (peer : ℕ) → drop at air.peers.items ≡ peer ∷ drop (at + 1) air.peers.items → (is : Bool)
@@ -589,18 +574,11 @@ module _ (f : Turns → List ℕ → List ℕ → Due) {from : From} {now : Show
       let k = x.is_at.knows in
       record {
         place = x.place;
-        is_at = record {
-          events = x.is_at.events;
-          h = x.is_at.h;
-          history = x.is_at.history;
-          addresses = x.is_at.addresses;
-          stage = x.is_at.stage;
-          knows = subst (λ ys. Knows ys now.counts.peers live) (sym items) (record {
-            rising = lists.rising_removed 0 at peer xs _ e k.rising;
-            below = lists.below_removed (λ other. other ≤ now.counts.peers) at xs k.below;
-            covers = lists.filter_removed (λ other. has other live) at peer xs _ e lacks ∙ k.covers;
-          });
-        };
+        is_at = airs_with x.is_at refl x.is_at.history (subst (λ ys. Knows ys now.counts.peers live) (sym items) (record {
+          rising = lists.rising_removed 0 at peer xs _ e k.rising;
+          below = lists.below_removed (λ other. other ≤ now.counts.peers) at xs k.below;
+          covers = lists.filter_removed (λ other. has other live) at peer xs _ e lacks ∙ k.covers;
+        }));
         next = x.next ∙ ap (λ ys. f air.turns live (filter (λ other. has other live) ys))
             (sym (lists.drop_removed at peer xs _ e) ∙ ap (drop at) (sym items));
       }

@@ -1,7 +1,7 @@
 use Rattle.std.proofs.Common.{◌≡◌, ◌+◌, ◌∙◌, ◌∷◌, ℕ, List, subst, arith, drop, get_or, refl, [], true, false}
 use Rattle.css_model.specs.History.{HungUp}
 use Rattle.css_drive.specs.TvStanding.{hanging_up}
-use Rattle.css_drive.proofs.TvSteps.{is_live, not_open, adds, failed, made, peers_all, turns_over, next_left}
+use Rattle.css_drive.proofs.TvSteps.{is_live, not_open, adds, failed, made, turns_over, next_left}
 use Rattle.css_drive.proofs.TvSteps.{left_after, none_left, all_hung, peer_from}
 use Rattle.css_drive.proofs.tv_calls.hang_up_all.Goals.{then-is_open+in-Ok, else-is_open}
 use Rattle.css_drive.proofs.tv_calls.hang_up_all.Goals as goal
@@ -38,4 +38,4 @@ returns-in-Err g c from enough s =
 pub returns : goal.returns
 returns g c from enough s =
     all_hung (none_left hanging_up c.loop-peer.peer-index (c.loop-peer.invariant from enough s)
-    (peers_all c.args.air.now.peers.items c.loop-peer.peer-index (omega (arith, c.loop-peer-test.false)))) enough
+    (omega (arith, c.loop-peer-test.false))) enough
