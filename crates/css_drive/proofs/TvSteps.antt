@@ -369,8 +369,7 @@ module _ {from : From} {now : Shown} {air : OnAir} where
       let live = live_after from x.is_at.events in
       let y = read_on x.is_at why.Turn (x.next ∙ ap (λ b. cond b (Now why.Turn) (from_hang_ups live)) goes) reading
       read in
-      airs_as y refl refl (ap (λ (t : Turns). settled (addresses_in from.run.config)
-      (progress_at from.run (record air { turns = t }) (Turned reading) [] y.events)) (sym is))
+      airs_as y refl refl (cc)
 
   -- a datagram is taken, unless the turn is the last by its time
   pub may_take : IsTurned from now air → is_over air.turns ≡ false → Comes (λ _ live. TakeDatagram) from now air
@@ -574,11 +573,12 @@ module _ (f : Turns → List ℕ → List ℕ → Due) {from : From} {now : Show
       let k = x.is_at.knows in
       record {
         place = x.place;
-        is_at = airs_with x.is_at refl x.is_at.history (subst (λ ys. Knows ys now.counts.peers live) (sym items) (record {
-          rising = lists.rising_removed 0 at peer xs _ e k.rising;
-          below = lists.below_removed (λ other. other ≤ now.counts.peers) at xs k.below;
-          covers = lists.filter_removed (λ other. has other live) at peer xs _ e lacks ∙ k.covers;
-        }));
+        is_at = airs_with x.is_at refl x.is_at.history
+            (subst (λ ys. Knows ys now.counts.peers live) (sym items) (record {
+              rising = lists.rising_removed 0 at peer xs _ e k.rising;
+              below = lists.below_removed (λ other. other ≤ now.counts.peers) at xs k.below;
+              covers = lists.filter_removed (λ other. has other live) at peer xs _ e lacks ∙ k.covers;
+            }));
         next = x.next ∙ ap (λ ys. f air.turns live (filter (λ other. has other live) ys))
             (sym (lists.drop_removed at peer xs _ e) ∙ ap (drop at) (sym items));
       }

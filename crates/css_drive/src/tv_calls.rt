@@ -8,8 +8,8 @@ ghost use Rattle.css_drive.specs.CompanionStanding.{Shown, shown};
 ghost use Rattle.css_drive.specs.Proper.{TakeDatagram, TakeText};
 ghost use Rattle.css_drive.specs.TvProgress.{Place, Taken, Received, Answers, Served, Asked, answering};
 ghost use Rattle.css_drive.specs.TvTurns.{goes_on};
-ghost use Rattle.css_drive.specs.TvStanding.{From, Stops, Fails, Calls, IsRead, IsAt, Settles, Happens, Welcomes, Comes};
-ghost use Rattle.css_drive.specs.TvStanding.{Leads, IsUnused, at_end, with_tv};
+ghost use Rattle.css_drive.specs.TvStanding.{From, Stops, Fails, Calls, IsRead, IsAt, Settles, Happens, Welcomes};
+ghost use Rattle.css_drive.specs.TvStanding.{Comes, Leads, IsUnused, at_end, with_tv};
 ghost use Rattle.css_drive.specs.declared.on_air.OnAir.{OnAir as Loop};
 
 use crate::driven::Driven;
@@ -75,16 +75,15 @@ pub(crate) fn put_all<O: Outside>(
     alloc: Global,
     tv: &mut Tv,
     outside: &mut O,
-    outs: &mut Vec<TvOut>,
+    outs: &[TvOut],
 ) -> Result<(), Driven>
     ensures { (from : From) (air : Loop) (place : Place)
-        → Leads from (Settles place outs.old.items) (Settles place [])
+        → Leads from (Settles place outs.now) (Settles place [])
         (shown (O.told outside.old) (O.counts outside.old)) (with_tv air tv.old)
         (shown (O.told outside.new) (O.counts outside.new)) (with_tv air tv.new) result }
 {
-    outs.reverse();
-    'outs: while let Some(out) = outs.pop() {
-        put_one(alloc, tv, outside, &out)?;
+    for out in outs {
+        put_one(alloc, tv, outside, out)?;
     }
     Ok(())
 }
@@ -104,7 +103,7 @@ pub(crate) fn play<O: Outside>(
 {
     let mut outs = Vec::new(alloc);
     match tv.step(event, &mut outs) {
-        Ok(()) => put_all(alloc, tv, outside, &mut outs),
+        Ok(()) => put_all(alloc, tv, outside, &outs),
         Err(_) => Err(Driven::Memory),
     }
 }

@@ -71,7 +71,7 @@ fn carry_out<O: Outside>(
     };
     let mut outs = Vec::new(alloc);
     match tv.step(event, &mut outs) {
-        Ok(()) => put_all(alloc, tv, outside, &mut outs),
+        Ok(()) => put_all(alloc, tv, outside, &outs),
         Err(TvFault::Memory) => Err(Driven::Memory),
         Err(TvFault::Player(fault)) => Err(Driven::BadLine {
             line: before as u64 + 1,
