@@ -3,7 +3,7 @@
 use Rattle.std.proofs.Common.{◌≡◌, ℕ, ◌+◌, ◌≤◌, ◌<◌, Bool, false, true, cond, List, [], ◌∷◌, ◌++◌, Option, Some, None}
 use Rattle.std.proofs.Common.{refl, sym, ap, ap₂, subst, ◌∙◌, arith, append_assoc, drop, Result, Ok, Err, length}
 use Rattle.std.proofs.Common.{get_or, inl, inr, ◌⊎◌}
-use Rattle.std.specs.Prelude.{◌≢◌, ◌&&◌, ⊤, is_some, ◌↔◌, MatchResult, filter, IfSome}
+use Rattle.std.specs.Prelude.{◌≢◌, ◌&&◌, ⊤, is_some, ◌↔◌, filter, IfSome}
 use Rattle.std.specs.Option.{option_map, option_to_list}
 use Rattle.std.proofs.lemmas.List.Elements.{All-nil, All-push}
 use Rattle.std.specs.List.{remove}
@@ -11,16 +11,15 @@ use Rattle.std.proofs.lemmas.Bool.Decides.{nat_tests}
 use Rattle.std.proofs.lemmas.Grind.{common_steps}
 use Rattle.css_model.specs.Wire.{encoded}
 use Rattle.css_model.specs.declared.Kind.{Kind as PeerKind}
-use Rattle.css_model.specs.declared.Kind.TheVariants as peer_kind
 use Rattle.css_model.specs.declared.Why.{Why}
 use Rattle.css_model.specs.declared.Why.TheVariants as why
-use Rattle.css_model.specs.History.{History, Listening, Accepted, Clock, Sent}
+use Rattle.css_model.specs.History.{History, Listening, Accepted, Clock}
 use Rattle.css_num.specs.declared.protocol.Kind.{Kind}
-use Rattle.css_num.specs.declared.protocol.Kind.TheVariants as kind
 use Rattle.css_outside.specs.Faults.{CountsOutFault}
+use Rattle.css_outside.specs.declared.calls.Clocked.{Clocked}
 use Rattle.css_outside.specs.declared.fault.OutFault.{OutFault}
-use Rattle.css_outside.specs.Outsides.{Counts, CountsPlain, with_entries, clock_entries}
-use Rattle.css_server.specs.Tickets.{Server, Ticket, response_to, follow_up_for}
+use Rattle.css_outside.specs.Outsides.{Counts, CountsPlain, CountsOpening, with_entries, clock_entries}
+use Rattle.css_server.specs.Tickets.{Ticket, response_to, follow_up_for}
 use Rattle.css_sessions.specs.Kept.{Kept, talk_of}
 use Rattle.css_sessions.specs.Told.{sessions_of, life_of}
 use Rattle.css_player.specs.Player.{Player}
@@ -42,7 +41,7 @@ use Rattle.css_drive.specs.Proper.{Due, Now, TakeDatagram, MayAdd, Empty, More, 
 use Rattle.css_drive.specs.Ends.{MayEnd, CountsNetFault}
 use Rattle.css_drive.specs.TvProgress.{Place, Listens, Turned, Received, Answers, Served, Asked, Progress, settled}
 use Rattle.css_drive.specs.TvProgress.{settled_at, carry, with_line, is_free, is_due, addresses_in, progress_of, after}
-use Rattle.css_drive.specs.TvProgress.{beginning, happened, opened, answering, outcome_after, outs_in, played}
+use Rattle.css_drive.specs.TvProgress.{beginning, happened, opened, outcome_after, outs_in, played}
 use Rattle.css_drive.specs.TvProgress.{played_if, event_of}
 use Rattle.css_drive.specs.TvTurns.{since, begun, goes_on, is_over, no_turns}
 use Rattle.css_drive.specs.TvDue.{TvRun, due, due_for, from_hang_ups, due_at}
@@ -89,20 +88,10 @@ numbered_on n [] h none known = known
 numbered_on n (Accepted peer kind ∷ call) h none known = absurd none
 numbered_on n (_ ∷ call) h none known = numbered_on n call h none known
 
-accepts_none : (w : Why) (reading : ℕ) (slept : Bool)
-    → AcceptsNone (clock_entries w (record { reading = reading; slept = slept }))
-accepts_none w reading true = tt
-accepts_none w reading false = tt
-
 -- how far entries bring a run
 abbrev pub after_all : Addresses → History → Progress → Progress
 after_all a [] p = p
 after_all a (entry ∷ older) p = after a entry (after_all a older p)
-
-after_read : (a : Addresses) (w : Why) (reading : ℕ) (slept : Bool) (p : Progress)
-    → after_all a (clock_entries w (record { reading = reading; slept = slept })) p ≡ after a (Clock w reading) p
-after_read a w reading true p = refl
-after_read a w reading false p = refl
 
 progress_more : (run : TvRun) (call h : History)
     → progress_of run (call ++ h) ≡ after_all (addresses_in run.config) call (progress_of run h)
@@ -165,17 +154,23 @@ adds told k = record {
 }
 
 module _ {from : From} {now : Shown} {air : OnAir} {to : List TvEvent → Progress} (x : Airs from now air to) where
-  -- with other values of the loop, and where more is known of how far it has come
-  airs_by : {air' : OnAir} {to' : List TvEvent → Progress} → air'.tv.stage ≡ air.tv.stage
-      → air'.peers.items ≡ air.peers.items → Told from now (to' x.events) x.h → Airs from now air' to'
-  airs_by stage items t = record {
+  -- with other values of the loop, and where more is told
+  abbrev airs_with : {next : Shown} {air' : OnAir} {to' : List TvEvent → Progress} {h : History}
+      → air'.tv.stage ≡ air.tv.stage → Told from next (to' x.events) h
+      → Knows air'.peers.items next.counts.peers (live_after from x.events) → Airs from next air' to'
+  airs_with {h = h} stage t knows = record {
     events = x.events;
-    h = x.h;
+    h = h;
     history = t;
     addresses = ap (λ s. s.addresses) stage ∙ x.addresses;
     stage = subst (λ s. StandsFor s x.events) (sym stage) x.stage;
-    knows = subst (λ xs. Knows xs now.counts.peers (live_after from x.events)) (sym items) x.knows;
+    knows = knows;
   }
+
+  airs_by : {air' : OnAir} {to' : List TvEvent → Progress} → air'.tv.stage ≡ air.tv.stage
+      → air'.peers.items ≡ air.peers.items → Told from now (to' x.events) x.h → Airs from now air' to'
+  airs_by stage items t =
+      airs_with stage t (subst (λ xs. Knows xs now.counts.peers (live_after from x.events)) (sym items) x.knows)
 
   pub airs_as : {air' : OnAir} {to' : List TvEvent → Progress} → air'.tv.stage ≡ air.tv.stage
       → air'.peers.items ≡ air.peers.items → to x.events ≡ to' x.events → Airs from now air' to'
@@ -186,19 +181,9 @@ module _ {from : From} {now : Shown} {air : OnAir} {to : List TvEvent → Progre
       → Adds now next call → Airs from next air (λ events. after_all (addresses_in from.run.config) call (to events))
   moved {next} call none may added =
       let known = numbered_on (now.counts.peers + 1) call x.h none (x.history.numbered, x.history.below) in
-      record {
-        events = x.events;
-        h = call ++ x.h;
-        history = told_more x.history call may added.told added.dials added.faults known.0
-            (subst (λ n. AreBelow (n + 1) (call ++ x.h)) (sym added.peers) known.1);
-        addresses = x.addresses;
-        stage = x.stage;
-        knows = subst (λ n. Knows air.peers.items n (live_after from x.events)) (sym added.peers) x.knows;
-      }
-
-  -- The run ends for want of memory.
-  pub lacks_memory : Stops from now driven.Memory
-  lacks_memory = stops x.history refl refl driven.Memory tt tt refl (λ e. cc)
+      airs_with refl (told_more x.history call may added.told added.dials added.faults known.0
+      (subst (λ n. AreBelow (n + 1) (call ++ x.h)) (sym added.peers) known.1))
+      (subst (λ n. Knows air.peers.items n (live_after from x.events)) (sym added.peers) x.knows)
 
   -- whether a session is open
   sessions_same : air.tv.stage.sessions ≡ sessions_of (calls_of (addresses_in from.run.config) x.events).sessions
@@ -218,13 +203,6 @@ module _ {from : From} {now : Shown} {air : OnAir} {to : List TvEvent → Progre
       ap₂ (λ (pl : Player) (k : Kept). outcome stage.addresses e pl k) x.stage.player.same x.stage.sessions.same
       ∙ ap (λ (a : Addresses). outcome a e (player_after a x.events) (sessions_of (calls_of a x.events).sessions))
       x.addresses
-
--- A part ends with a call.
-pub ends_with : {T : Type 0} {from : From} {now : Shown} {p : Progress} {h : History} (P Q : T → Type 0) (next : Shown)
-    → Told from now p h → (result : Result T Driven) → MatchResult result P (Fails now next)
-    → ((value : T) → P value → Q value) → MatchResult result Q (Stops from next)
-ends_with P Q next t (Ok value) call there = there value call
-ends_with P Q next t (Err ended) call there = call _ _ _ t
 
 -- A call failed, by which no session comes.
 pub failed : {T : Type 0} {from : From} {now next : Shown} {p : Progress} {h : History} {fault : OutFault}
@@ -247,11 +225,14 @@ pub read_on : {from : From} {now next : Shown} {air : OnAir} {to : List TvEvent 
     → (x : Airs from now air to) → (w : Why) → due_for from.run (to x.events) ≡ Now w → (reading : ℕ)
     → IsRead w now next reading
     → Airs from next air (λ events. after (addresses_in from.run.config) (Clock w reading) (to events))
-read_on {from} {to = to} x w d reading read =
-    let call = clock_entries w (record { reading = reading; slept = read.0 }) in
-    let y = moved x call (accepts_none w reading read.0)
-    (subst (λ due. MayAdd due call) (sym d) (record { reading = reading; slept = read.0 }, refl)) read.1 in
-    airs_as y refl refl (after_read (addresses_in from.run.config) w reading read.0 (to y.events))
+read_on x w d reading (true, added) =
+    let clocked : Clocked = record { reading = reading; slept = true } in
+    moved x (clock_entries w clocked) tt
+    (subst (λ due. MayAdd due (clock_entries w clocked)) (sym d) (clocked, refl)) added
+read_on x w d reading (false, added) =
+    let clocked : Clocked = record { reading = reading; slept = false } in
+    moved x (clock_entries w clocked) tt
+    (subst (λ due. MayAdd due (clock_entries w clocked)) (sym d) (clocked, refl)) added
 
 -- ---- an event
 -- one that opens no session is told
@@ -304,16 +285,6 @@ pub not_open : (r b : Bool) → ((r ≡ true) ↔ (b ≡ true)) → r ≡ false 
 not_open r false i e = refl
 not_open r true i e = absurd (let f : r ≡ true = i.1 refl in cc)
 
--- the kind of a session that was accepted
-abbrev pub peer_kind_of : Kind → PeerKind
-peer_kind_of kind.Cii = peer_kind.Cii
-peer_kind_of kind.Ts = peer_kind.Ts
-
-opened_so : (a : Addresses) (peer : ℕ) (k : Kind) (p : Progress)
-    → opened a peer (peer_kind_of k) p ≡ happened a (event.Opened peer k) p
-opened_so a peer kind.Cii p = refl
-opened_so a peer kind.Ts p = refl
-
 module _ {from : From} {now : Shown} {air : OnAir} where
   -- a peer above the greatest has no session
   pub unused_of : {to : List TvEvent → Progress} → Airs from now air to → IsUnused now air.tv
@@ -326,40 +297,38 @@ module _ {from : From} {now : Shown} {air : OnAir} where
       (lists.below_live peer xs live (lists.below_next now.counts.peers peer xs lt x.knows.below) x.knows.covers))
 
   -- a session comes
-  pub welcomes : {next : Shown} → IsAt Served from now air → (peer : ℕ) (k : Kind)
-      → next.told ≡ with_entries (Accepted peer (peer_kind_of k) ∷ []) now.told
-      → next.counts.dial_faults ≡ now.counts.dial_faults → next.counts.faults ≡ now.counts.faults
-      → now.counts.peers < peer → next.counts.peers ≡ peer → Welcomes peer k from next air
-  welcomes {next} x peer k told dials faults lt is =
+  pub welcomes : {next : Shown} → IsAt Served from now air → (peer : ℕ) (kind : PeerKind) (k : Kind)
+      → (let a = addresses_in from.run.config in
+      (p : Progress) → opened a peer kind p ≡ happened a (event.Opened peer k) p)
+      → next.told ≡ with_entries (Accepted peer kind ∷ []) now.told
+      → CountsOpening now.counts next.counts (Ok (Some (peer, kind))) → Welcomes peer k from next air
+  welcomes {next} x peer kind k so told counted =
+      let lt : now.counts.peers < peer = counted.peer.0 in
+      let is : next.counts.peers ≡ peer = counted.peer.1 in
       let a = addresses_in from.run.config in
-      let call = Accepted peer (peer_kind_of k) ∷ [] in
+      let call = Accepted peer kind ∷ [] in
       let xs = air.peers.items in
       let before = lists.below_next now.counts.peers peer xs lt x.knows.below in
       let below : AreBelow peer x.h = below_later _ _ x.h (omega (arith, lt)) x.history.below in
       let t : Told from next (happened a (event.Opened peer k) (progress_at from.run air (Asked None) [] x.events))
       (call ++ x.h) =
-      told_as _ (told_more x.history call (Some (peer, peer_kind_of k), refl) told dials faults
+      told_as _ (told_more x.history call (Some (peer, kind), refl) told
+      (ap (λ (y : Counts). y.dial_faults) counted.same) counted.faults
       (below, x.history.numbered) (omega (arith, is), below_later _ _ x.h (omega (arith, lt, is)) x.history.below))
-      (opened_so a peer k (progress_at from.run air (Asked None) [] x.events)) in
+      (so (progress_at from.run air (Asked None) [] x.events)) in
       record {
         p = _;
         h = call ++ x.h;
         history = t;
         happens = λ now' items. record {
-          airs = record {
-            events = x.events;
-            h = call ++ x.h;
-            history = t;
-            addresses = x.addresses;
-            stage = x.stage;
-            knows = subst (λ ys. Knows ys next.counts.peers (live_after from x.events)) (sym items) (record {
-              rising = lists.rising_last 0 peer xs x.knows.rising before (omega arith);
-              below = All-push (λ other. other ≤ next.counts.peers) xs peer
-                  (lists.below_later now.counts.peers next.counts.peers xs (omega (arith, lt, is)) x.knows.below)
-                  (omega (arith, is));
-              covers = lists.covers_unopened peer xs _ before x.knows.covers;
-            });
-          };
+          airs = airs_with x refl t (subst (λ ys. Knows ys next.counts.peers (live_after from x.events)) (sym items)
+              (record {
+                rising = lists.rising_last 0 peer xs x.knows.rising before (omega arith);
+                below = All-push (λ other. other ≤ next.counts.peers) xs peer
+                    (lists.below_later now.counts.peers next.counts.peers xs (omega (arith, lt, is)) x.knows.below)
+                    (omega (arith, is));
+                covers = lists.covers_unopened peer xs _ before x.knows.covers;
+              }));
           fresh = ap (λ (p : Progress). life_of peer (calls_of a p.events).sessions) (sym x.history.progress)
               ∙ (all_good from.run x.h x.history.proper x.history.numbered peer).unused below;
           covers = subst (λ ys. Covers ys (live_after from (event.Opened peer k ∷ x.events))) (sym items)
@@ -389,26 +358,18 @@ module _ {from : From} {now : Shown} {air : OnAir} where
       → IsAt (Answers peer (response ∷ option_to_list later)) from next air
   answer_read {peer = peer} x reading read response e later f =
       let y = read_on x why.Give refl reading read in
-      airs_as y refl refl (ap₂ (λ (d : List ℕ) (o : Option (List ℕ)).
-      progress_at from.run air (Answers peer (d ∷ option_to_list o)) [] y.events) (sym e) (sym f))
-
-  pub datagram_sent : {next : Shown} {peer : ℕ} {bytes : List ℕ} {rest : List (List ℕ)}
-      → IsAt (Answers peer (bytes ∷ rest)) from now air → Adds now next (Sent peer bytes ∷ [])
-      → IsAt (answering peer rest) from next air
-  datagram_sent {peer = peer} {bytes = bytes} x added = moved x (Sent peer bytes ∷ []) tt refl added
+      airs_as y refl refl (cc)
 
   -- ---- turns
   -- one begins
   pub turn_begins : {next : Shown} → Comes at_end from now air → goes_on air.turns ≡ true → (reading : ℕ)
       → IsRead why.Turn now next reading → (turns : Turns) → turns ≡ begun reading air.turns
-      → Settles (Turned reading) [] from next
-      (record { tv = air.tv; peers = air.peers; lines = air.lines; turns = turns })
+      → Settles (Turned reading) [] from next (record air { turns = turns })
   turn_begins x goes reading read turns is =
       let live = live_after from x.is_at.events in
       let y = read_on x.is_at why.Turn (x.next ∙ ap (λ b. cond b (Now why.Turn) (from_hang_ups live)) goes) reading
       read in
-      airs_as y refl refl (ap (λ (t : Turns). settled (addresses_in from.run.config) (progress_at from.run
-      (record { tv = air.tv; peers = air.peers; lines = air.lines; turns = t }) (Turned reading) [] y.events)) (sym is))
+      airs_as y refl refl (cc)
 
   -- a datagram is taken, unless the turn is the last by its time
   pub may_take : IsTurned from now air → is_over air.turns ≡ false → Comes (λ _ live. TakeDatagram) from now air
@@ -433,7 +394,8 @@ at_first run start = record {
   same None = refl
   same (Some h) = refl
 
-module _ (run : TvRun) {start now : Shown} (added : Adds start now (Listening run.config.host run.config.port ∷ [])) where
+module _ (run : TvRun) {start now : Shown}
+    (added : Adds start now (Listening run.config.host run.config.port ∷ [])) where
   pub listens : Told (started run start) now (record (beginning run) { place = Listens })
       (Listening run.config.host run.config.port ∷ [])
   listens = told_more (at_first run start) (Listening run.config.host run.config.port ∷ []) refl added.told added.dials
@@ -448,15 +410,7 @@ module _ (run : TvRun) {start now : Shown} (added : Adds start now (Listening ru
       events = [];
       h = Listening run.config.host run.config.port ∷ [];
       history = told_as _ listens
-          (ap₂ (λ (s : Server) (t : Turns). record (beginning run) { place = Listens; server = s; turns = t })
-          (sym server) (sym turns)
-          ∙ ap (λ n. record (beginning run) {
-            place = Listens;
-            server = air.tv.server;
-            turns = air.turns;
-            lines = drop n run.script;
-            carried = n;
-          }) (sym zero));
+          (let left : drop air.lines run.script ≡ run.script = ap (λ n. drop n run.script) zero in cc);
       addresses = addresses;
       stage = stands;
       knows = subst (λ xs. Knows xs now.counts.peers []) (sym none)
@@ -472,13 +426,6 @@ left_at xs i x lt is = grind (arith, common_steps)
 
 pub peers_all : {X : Type 0} (xs : List X) (i : ℕ) → length xs ≤ i → drop i xs ≡ []
 peers_all xs i le = grind (arith, common_steps)
-
--- whether a line is due, by the number from which its time counts
-due_by : (from r : ℕ) (line : ScriptLine) (n : ℕ) → from ≡ n → n + line.due ≤ r → is_due from r line ≡ true
-due_by from r line n e le = ap (λ m. is_due m r line) e ∙ grind (arith, nat_tests)
-
-pub waits_by : (from r : ℕ) (line : ScriptLine) (n : ℕ) → from ≡ n → r < n + line.due → is_due from r line ≡ false
-waits_by from r line n e lt = ap (λ m. is_due m r line) e ∙ grind (arith, nat_tests)
 
 -- ---- a line that is due
 module _ {from : From} {now : Shown} {air : OnAir} {r : ℕ} {line : ScriptLine} (x : Carries r line from now air) where
@@ -536,35 +483,43 @@ module _ {from : From} {now : Shown} {air : OnAir} {r : ℕ} {line : ScriptLine}
       stops t refl refl _ (ap (due_for from.run) t.progress) tt refl (λ same. cc)
 
 -- ---- which line is next
-module _ {from : From} {now : Shown} {air : OnAir} (r : ℕ) (x : Settles (Turned r) [] from now air) where
-  -- one that is due, where the run's script is this one and its times count from this reading
-  pub carries : (script : List ScriptLine) → from.run.script ≡ script → (line : ScriptLine)
-      → air.lines < length script → line ≡ get_or script air.lines line
-      → (begun : ℕ) → since air.turns ≡ begun → begun + line.due ≤ r → Carries r line from now air
-  carries script e line lt is begun since_is le = record {
-    settles = x;
+-- where the run's script is this one
+module _ {from : From} {now : Shown} {air : OnAir} (r : ℕ) (x : Settles (Turned r) [] from now air)
+    (script : List ScriptLine) (e : from.run.script ≡ script) where
+  abbrev going_on : List ScriptLine → Progress
+  going_on lines = carry (addresses_in from.run.config) (since air.turns) r lines
+      (progress_at from.run air (Turned r) [] x.events)
+
+  pub no_line : length script ≤ air.lines → IsTurned from now air
+  no_line over = (r, airs_as x refl refl (ap going_on (ap (drop air.lines) e ∙ peers_all script air.lines over)))
+
+  -- this is the next one, and its time counts from this reading
+  module _ (line : ScriptLine) (lt : air.lines < length script) (is : line ≡ get_or script air.lines line)
+      (begun : ℕ) (since_is : since air.turns ≡ begun) where
+    next : drop air.lines from.run.script ≡ line ∷ drop (air.lines + 1) from.run.script
     next = ap (drop air.lines) e ∙ left_at script air.lines line lt is
-        ∙ ap (λ ls. line ∷ drop (air.lines + 1) ls) (sym e);
-    is_due = due_by (since air.turns) r line begun since_is le;
-  }
+        ∙ ap (λ ls. line ∷ drop (air.lines + 1) ls) (sym e)
 
-  -- a line that isn't due waits, and so do those after it
-  pub line_waits : (line : ScriptLine) (left : List ScriptLine) → drop air.lines from.run.script ≡ line ∷ left
-      → is_due (since air.turns) r line ≡ false → IsTurned from now air
-  line_waits line left next is =
-      let a = addresses_in from.run.config in
-      let p = progress_at from.run air (Turned r) [] x.events in (
-        r,
-        airs_as x refl refl (ap (λ ls. carry a (since air.turns) r ls p) next
-            ∙ ap (λ b. cond b (carry a (since air.turns) r left (with_line a r line left p)) p) is),
-      )
+    -- it is due
+    pub carries : begun + line.due ≤ r → Carries r line from now air
+    carries le = record {
+      settles = x;
+      next = next;
+      is_due = ap (λ m. is_due m r line) since_is ∙ grind (arith, nat_tests);
+    }
 
-  pub no_line : drop air.lines from.run.script ≡ [] → IsTurned from now air
-  no_line none = (
-    r,
-    airs_as x refl refl (ap (λ ls. carry (addresses_in from.run.config) (since air.turns) r ls
-        (progress_at from.run air (Turned r) [] x.events)) none),
-  )
+    -- it isn't, and so it waits, and those after it
+    pub line_waits : r < begun + line.due → IsTurned from now air
+    line_waits later =
+        let a = addresses_in from.run.config in
+        let left = drop (air.lines + 1) from.run.script in
+        let p = progress_at from.run air (Turned r) [] x.events in
+        let waits : is_due begun r line ≡ false = grind (arith, nat_tests) in (
+          r,
+          airs_as x refl refl (ap going_on next
+              ∙ ap (λ b. cond b (carry a (since air.turns) r left (with_line a r line left p)) p)
+              (ap (λ m. is_due m r line) since_is ∙ waits)),
+        )
 
 -- ---- the peers of sessions
 pub comes_as : {from : From} {now : Shown} {air : OnAir} {to to' : OnAir → List ℕ → Due} → (x : Comes to from now air)
@@ -591,10 +546,10 @@ module _ (f : Turns → List ℕ → List ℕ → Due) {from : From} {now : Show
 
   module _ (at : ℕ) (x : Comes (left_from f at) from now air) where
     -- no session is left
-    pub none_left : drop at air.peers.items ≡ [] → Comes (λ air live. f air.turns live []) from now air
-    none_left none =
+    pub none_left : length air.peers.items ≤ at → Comes (λ air live. f air.turns live []) from now air
+    none_left over =
         let live = live_after from x.is_at.events in
-        comes_as x (ap (λ xs. f air.turns live (filter (λ peer. has peer live) xs)) none)
+        comes_as x (ap (λ xs. f air.turns live (filter (λ peer. has peer live) xs)) (peers_all air.peers.items at over))
 
     -- that of this peer is the next one, if it has one
     pub next_left : (peer : ℕ) → drop at air.peers.items ≡ peer ∷ drop (at + 1) air.peers.items → (is : Bool)
@@ -618,18 +573,12 @@ module _ (f : Turns → List ℕ → List ℕ → Due) {from : From} {now : Show
       let k = x.is_at.knows in
       record {
         place = x.place;
-        is_at = record {
-          events = x.is_at.events;
-          h = x.is_at.h;
-          history = x.is_at.history;
-          addresses = x.is_at.addresses;
-          stage = x.is_at.stage;
-          knows = subst (λ ys. Knows ys now.counts.peers live) (sym items) (record {
-            rising = lists.rising_removed 0 at peer xs _ e k.rising;
-            below = lists.below_removed (λ other. other ≤ now.counts.peers) at xs k.below;
-            covers = lists.filter_removed (λ other. has other live) at peer xs _ e lacks ∙ k.covers;
-          });
-        };
+        is_at = airs_with x.is_at refl x.is_at.history
+            (subst (λ ys. Knows ys now.counts.peers live) (sym items) (record {
+              rising = lists.rising_removed 0 at peer xs _ e k.rising;
+              below = lists.below_removed (λ other. other ≤ now.counts.peers) at xs k.below;
+              covers = lists.filter_removed (λ other. has other live) at peer xs _ e lacks ∙ k.covers;
+            }));
         next = x.next ∙ ap (λ ys. f air.turns live (filter (λ other. has other live) ys))
             (sym (lists.drop_removed at peer xs _ e) ∙ ap (drop at) (sym items));
       }

@@ -174,7 +174,8 @@ is_called h a p (event.AddTimeline m selector rate base) fresh =
     by_call h a p (timeline_added a (TimelineAdded m selector rate base)) (λ q. Once (published a q) tt tt)
     (with_timeline m selector rate base p)
 is_called h a p (event.Viewer command reading) fresh =
-    by_call h a p (viewed a (Commanded command reading)) (λ q. Shows (published_state a q) q) (commanded command reading p)
+    by_call h a p (viewed a (Commanded command reading)) (λ q. Shows (published_state a q) q)
+    (commanded command reading p)
 is_called h a p (event.Opened peer kind) fresh =
     by_opening p peer kind fresh (nat_lt (length (sessions_of h).list) max_sessions)
 is_called h a p (event.Heard peer bytes) fresh =
@@ -374,12 +375,11 @@ module _ (a : Addresses) (e : TvEvent) (es : List TvEvent) (lawful : IsLawful (c
 -- ---- lists
 -- what adds nothing is nothing
 adds_nothing : {X : Type 0} (xs ys : List X) → ys ≡ reverse xs ++ ys → xs ≡ []
-adds_nothing {X} xs ys e =
-    by xs (let n = ap length e ∙ length-append (reverse xs) ys in let m = length-reverse xs in omega
-    (arith, n, m)) where
-      by : (zs : List X) → length zs ≡ 0 → zs ≡ []
-      by [] f = refl
-      by (z ∷ zs) f = absurd (let g : suc (length zs) ≡ 0 = f in omega (arith, g))
+adds_nothing [] ys e = refl
+adds_nothing (x ∷ xs) ys e =
+    let n = ap length e ∙ length-append (reverse (x ∷ xs)) ys in
+    let m : length (reverse (x ∷ xs)) ≡ suc (length xs) = length-reverse (x ∷ xs) in
+    absurd (omega (arith, n, m))
 
 pub none_there : {X : Type 0} (xs : List X) → length xs ≤ 0 → xs ≡ []
 none_there [] le = refl
@@ -438,11 +438,11 @@ module _ {life : Option Lived} {sent : List (List ℕ)} {gone : Bool} (said : Sa
   text_gone false t = t
 
 -- ---- what stands as the run goes on
--- how a peer's session stands, and that a new peer has none
+-- how a peer's session stands after these events, with this news owed to it; and a new peer has none
 pub record Stands (a : Addresses) (peer : ℕ) (sent : List (List ℕ)) (gone : Bool) (new : Type 0)
-    (events : List TvEvent) (owed : List TvOut) : Type 0 where
+    (events : List TvEvent) (news : List (List ℕ)) : Type 0 where
   pub lawful : IsLawful (calls_of a events).sessions
-  pub telling : Telling (life_of peer (calls_of a events).sessions) sent gone (news_of peer owed)
+  pub telling : Telling (life_of peer (calls_of a events).sessions) sent gone news
   pub unused : new → life_of peer (calls_of a events).sessions ≡ None
 
 -- a session that opens is another than one that is over
@@ -458,15 +458,16 @@ other_opens peer _ h life fresh is = tt
 -- one event more, with nothing owed before it
 stands_event : (a : Addresses) (peer : ℕ) (sent : List (List ℕ)) (gone : Bool) (old new : Type 0) (e : TvEvent)
     (es : List TvEvent) (owed : List TvOut)
-    → Stands a peer sent gone old es owed → owed ≡ [] → IsFresh e (calls_of a es).sessions
-    → (new → old × IsOther peer e) → Stands a peer sent gone new (e ∷ es) (owed ++ outs_after a es e)
+    → Stands a peer sent gone old es (news_of peer owed) → owed ≡ [] → IsFresh e (calls_of a es).sessions
+    → (new → old × IsOther peer e) → Stands a peer sent gone new (e ∷ es) (news_of peer (owed ++ outs_after a es e))
 stands_event a peer sent gone old new e es owed s none fresh was =
     let now = outs_after a es e in
     let P : List TvOut → Type 0 =
     λ os. Telling (life_of peer (calls_of a es).sessions) sent gone (news_of peer os) in
-    subst (λ (os : List TvOut). Stands a peer sent gone new (e ∷ es) (os ++ now)) (sym none) (record {
+    subst (λ (os : List TvOut). Stands a peer sent gone new (e ∷ es) (news_of peer (os ++ now))) (sym none) (record {
       lawful = event-lawful a e es s.lawful fresh;
-      telling = telling_on _ (news_of peer now) (event-texts a e es s.lawful fresh peer) (event-few a e es s.lawful fresh peer)
+      telling = telling_on _ (news_of peer now) (event-texts a e es s.lawful fresh peer)
+          (event-few a e es s.lawful fresh peer)
           (λ l over. event_keeps a e es peer (gone_over l) fresh (other_opens peer e _ l fresh over) over)
           (subst P none s.telling);
       unused = λ n. event_keeps a e es peer none_over fresh (was n).1 (s.unused (was n).0);
@@ -540,27 +541,31 @@ module _ (a : Addresses) (Q : List TvEvent → List TvOut → Type 0) (k : IsKep
 
 -- ---- a call
 abbrev pub Good : TvRun → ℕ → History → Type 0
-Good run peer h =
-    At (Stands (addresses_in run.config) peer (sent_to peer h) (is_gone peer h) (AreBelow peer h)) (progress_of run h)
+Good run peer h = let p = progress_of run h in
+    Stands (addresses_in run.config) peer (sent_to peer h) (is_gone peer h) (AreBelow peer h) p.events
+    (news_of peer p.owed)
 
 module _ (run : TvRun) (older : History) (good : (other : ℕ) → Good run other older) (peer : ℕ) where
   abbrev before : Progress
   before = progress_of run older
 
-  -- how the session stands then, where this was sent to it
-  abbrev StandsAt : List (List ℕ) → Bool → Progress → Type 0
-  StandsAt sent gone p = At (Stands (addresses_in run.config) peer sent gone (AreBelow peer older)) p
+  -- how the session stands with this owed, where this was sent to it
+  abbrev With : List (List ℕ) → Bool → List TvEvent → List TvOut → Type 0
+  With sent gone events owed =
+      Stands (addresses_in run.config) peer sent gone (AreBelow peer older) events (news_of peer owed)
 
-  stands_kept : (sent : List (List ℕ)) (gone : Bool)
-      → IsKept (addresses_in run.config) (Stands (addresses_in run.config) peer sent gone (AreBelow peer older))
-  stands_kept sent gone e n es owed none s =
-      let new = AreBelow peer older in
-      stands_event (addresses_in run.config) peer sent gone new new e es owed s none (is_fresh e n _)
-      (λ below. (below, is_other peer e n))
+  -- where nothing more was sent to it
+  abbrev Still : List TvEvent → List TvOut → Type 0
+  Still events owed = With (sent_to peer older) (is_gone peer older) events owed
 
-  settles : (sent : List (List ℕ)) (gone : Bool) (p : Progress) → StandsAt sent gone p
-      → StandsAt sent gone (settled (addresses_in run.config) p)
-  settles sent gone p s = kept_settled (addresses_in run.config) _ (stands_kept sent gone) p s
+  with_kept : (sent : List (List ℕ)) (gone : Bool) → IsKept (addresses_in run.config) (With sent gone)
+  with_kept sent gone e n es owed none s =
+      stands_event (addresses_in run.config) peer sent gone (AreBelow peer older) (AreBelow peer older) e es owed s none
+      (is_fresh e n _) (λ below. (below, is_other peer e n))
+
+  settles : (sent : List (List ℕ)) (gone : Bool) (p : Progress) → At (With sent gone) p
+      → At (With sent gone) (settled (addresses_in run.config) p)
+  settles sent gone p s = kept_settled (addresses_in run.config) (With sent gone) (with_kept sent gone) p s
 
   abbrev Step : History → Type 0
   Step call = AreNumbered (call ++ older) → Good run peer (call ++ older)
@@ -570,9 +575,9 @@ module _ (run : TvRun) (older : History) (good : (other : ℕ) → Good run othe
 
   read_good : (w : Why) (c : Clocked) → Good run peer (clock_entries w c ++ older)
   read_good w c = by c.slept where
-    clock : StandsAt (sent_to peer older) (is_gone peer older) (after (addresses_in run.config) (Clock w c.reading) before)
-    clock = kept_clock (addresses_in run.config) _ (stands_kept (sent_to peer older) (is_gone peer older)) w c.reading
-        before (good peer)
+    clock : At Still (after (addresses_in run.config) (Clock w c.reading) before)
+    clock = kept_clock (addresses_in run.config) Still (with_kept (sent_to peer older) (is_gone peer older)) w
+        c.reading before (good peer)
 
     by : (slept : Bool) → Good run peer (clock_entries w (record { reading = c.reading; slept = slept }) ++ older)
     by false = clock
@@ -580,8 +585,8 @@ module _ (run : TvRun) (older : History) (good : (other : ℕ) → Good run othe
 
   event_good : (e : TvEvent) → IsFresh e (calls_of (addresses_in run.config) before.events).sessions
       → before.owed ≡ [] → (new : Type 0) → (new → AreBelow peer older × IsOther peer e)
-      → At (Stands (addresses_in run.config) peer (sent_to peer older) (is_gone peer older) new)
-      (happened (addresses_in run.config) e before)
+      → let p = happened (addresses_in run.config) e before in
+      Stands (addresses_in run.config) peer (sent_to peer older) (is_gone peer older) new p.events (news_of peer p.owed)
   event_good e fresh none new was =
       stands_event (addresses_in run.config) peer (sent_to peer older) (is_gone peer older) _ new e before.events
       before.owed (good peer) none fresh was
@@ -614,23 +619,20 @@ module _ (run : TvRun) (older : History) (good : (other : ℕ) → Good run othe
   wrote_good : (p : ℕ) (text : List ℕ) (os : List TvOut) (o : Outgoing) → before.owed ≡ out.Say p text ∷ os
       → Good run peer (wrote_entries p text o ++ older)
   wrote_good p text os outgoing.Sent owes =
-      let a = addresses_in run.config in
-      let s = subst (λ (xs : List TvOut). Stands a peer (sent_to peer older) (is_gone peer older) (AreBelow peer older)
-      before.events xs) owes (good peer) in
-      settles _ (is_gone peer older) (one_done before)
-      (subst (λ (xs : List TvOut). Stands a peer (sent_to peer (Wrote p text ∷ older)) (is_gone peer older)
-      (AreBelow peer older) before.events xs) (sym (ap without_first owes)) (record {
+      let s = subst (Still before.events) owes (good peer) in
+      let now = sent_to peer (Wrote p text ∷ older) in
+      settles now (is_gone peer older) (one_done before)
+      (subst (With now (is_gone peer older) before.events) (sym (ap without_first owes)) (record {
         lawful = s.lawful;
         telling = text_sent _ _ (eqb p peer) s.telling;
         unused = s.unused;
       }))
   wrote_good p text os outgoing.Gone owes =
       let a = addresses_in run.config in
-      let s = subst (λ (xs : List TvOut). Stands a peer (sent_to peer older) (is_gone peer older) (AreBelow peer older)
-      before.events xs) owes (good peer) in
-      settles (sent_to peer older) _ (happened a (event.Closed p) (one_done before))
-      (subst (λ (xs : List TvOut). Stands a peer (sent_to peer older) (is_gone peer (Gone p ∷ older))
-      (AreBelow peer older) (event.Closed p ∷ before.events) xs)
+      let s = subst (Still before.events) owes (good peer) in
+      let now = is_gone peer (Gone p ∷ older) in
+      settles (sent_to peer older) now (happened a (event.Closed p) (one_done before))
+      (subst (With (sent_to peer older) now (event.Closed p ∷ before.events))
       (sym (ap (λ xs. without_first xs ++ []) owes ∙ append-nil os)) (record {
         lawful = (s.lawful, tt);
         telling = text_gone _ _ (eqb p peer) s.telling;
@@ -638,13 +640,11 @@ module _ (run : TvRun) (older : History) (good : (other : ℕ) → Good run othe
       }))
 
   -- a session is hung up, which tells it nothing
-  hung_good : (p : ℕ) (owed : List TvOut) → before.owed ≡ owed
-      → StandsAt (sent_to peer older) (is_gone peer older) (hung_up p owed before) → Good run peer (HungUp p ∷ older)
+  hung_good : (p : ℕ) (owed : List TvOut) → before.owed ≡ owed → At Still (hung_up p owed before)
+      → Good run peer (HungUp p ∷ older)
   hung_good p owed is s =
-      let sent = sent_to peer older in
-      let gone = is_gone peer older in
-      settles sent gone (hung_up p before.owed before)
-      (subst (λ (xs : List TvOut). StandsAt sent gone (hung_up p xs before)) (sym is) s)
+      settles (sent_to peer older) (is_gone peer older) (hung_up p before.owed before)
+      (subst (λ (xs : List TvOut). At Still (hung_up p xs before)) (sym is) s)
 
   -- ---- what is due where nothing is owed
   module _ (none : before.owed ≡ []) (call : History) where
@@ -685,10 +685,7 @@ module _ (run : TvRun) (older : History) (good : (other : ℕ) → Good run othe
   due_good call (Some fault.Memory) owed owes may = absurd may
   due_good call None (out.Say p text ∷ os) owes may = adds may.1 (λ numbered. wrote_good p text os may.0 owes)
   due_good call None (out.HangUp p ∷ os) owes may =
-      let s = subst (λ (xs : List TvOut). Stands (addresses_in run.config) peer (sent_to peer older) (is_gone peer older)
-      (AreBelow peer older) before.events xs) owes (good peer) in
-      adds may (λ numbered. hung_good p (out.HangUp p ∷ os) owes
-      (record { lawful = s.lawful; telling = s.telling; unused = s.unused }))
+      adds may (λ numbered. hung_good p (out.HangUp p ∷ os) owes (subst (Still before.events) owes (good peer)))
   due_good call None [] owes may = place_good owes call _ before.turns before.place may
 
 -- ---- the run
@@ -701,8 +698,8 @@ pub all_good : (run : TvRun) (h : History) → IsProper (due run) h → AreNumbe
 all_good run [] Empty numbered peer = record { lawful = (tt, tt); telling = Whole refl; unused = λ below. refl }
 all_good run h (More {older} call may proper) numbered peer =
     let p = progress_of run older in
-    due_good run older (all_good run older proper (numbered_rest call older numbered)) peer call p.refused p.owed refl may
-    numbered
+    due_good run older (all_good run older proper (numbered_rest call older numbered)) peer call p.refused p.owed refl
+    may numbered
 
 -- where the end is due nothing is owed
 ended_owes : (r : Option TvFault) (owed : List TvOut) (carried : ℕ) (rest : Due)

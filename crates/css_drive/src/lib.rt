@@ -23,7 +23,6 @@ mod tv_calls;
 mod tv_config;
 pub mod tv_laws;
 mod tv_lines;
-mod tv_outputs;
 mod tv_turns;
 
 pub use companion::{companion_of, drive_companion};

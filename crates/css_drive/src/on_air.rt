@@ -2,6 +2,7 @@ use crate::turns::Turns;
 use css_tv::Tv;
 
 /// What a television's run keeps from call to call.
+#[derive(Drop)]
 pub(crate) struct OnAir {
     pub(crate) tv: Tv,
     /// Peers in rising order, among them each that has a session.
@@ -9,16 +10,4 @@ pub(crate) struct OnAir {
     /// How many lines of the script were carried out.
     pub(crate) lines: usize,
     pub(crate) turns: Turns,
-}
-
-// By hand: a derived drop is opened at each exit of each caller's proof.
-impl Drop for OnAir {
-    fn drop(self) {
-        let OnAir {
-            tv: _,
-            peers: _,
-            lines: _,
-            turns: _,
-        } = self;
-    }
 }

@@ -1,24 +1,112 @@
 ghost use Rattle.std.specs.Prelude.{◌≡◌, ◌<◌, ◌∷◌, [], ℕ, List, Some, None, false, IfOk};
-ghost use Rattle.css_model.specs.History.{Sent};
+ghost use Rattle.css_outside.specs.Faults.{CountsOutFault};
 ghost use Rattle.css_sessions.specs.Kept.{talk_of};
-ghost use Rattle.css_drive.specs.CompanionStanding.{shown};
+ghost use Rattle.css_tv.specs.Standing.{IsEvent};
+ghost use Rattle.css_tv.specs.declared.event.TvEvent.TheVariants as events;
+ghost use Rattle.css_tv.specs.declared.event.TvOut.{TvOut as Output};
+ghost use Rattle.css_drive.specs.CompanionStanding.{Shown, shown};
 ghost use Rattle.css_drive.specs.Proper.{TakeDatagram, TakeText};
-ghost use Rattle.css_drive.specs.TvProgress.{Taken, Received, Served, Asked};
+ghost use Rattle.css_drive.specs.TvProgress.{Place, Taken, Received, Answers, Served, Asked, answering};
 ghost use Rattle.css_drive.specs.TvTurns.{goes_on};
-ghost use Rattle.css_drive.specs.TvStanding.{From, Stops, Adds, IsRead, Calls, IsAt, Welcomes, Comes, Leads};
-ghost use Rattle.css_drive.specs.TvStanding.{IsUnused, at_end, with_tv};
-ghost use Rattle.css_drive.specs.declared.driven.Driven.TheVariants as driven;
+ghost use Rattle.css_drive.specs.TvStanding.{From, Stops, Fails, Calls, IsRead, IsAt, Settles, Happens, Welcomes};
+ghost use Rattle.css_drive.specs.TvStanding.{Comes, Leads, IsUnused, at_end, with_tv};
 ghost use Rattle.css_drive.specs.declared.on_air.OnAir.{OnAir as Loop};
 
 use crate::driven::Driven;
 use crate::on_air::OnAir;
-use crate::tv_outputs::{fault_of, play};
 use css_model::LIMIT;
-use css_outside::{Heard, Kind, Outside, Why};
+use css_outside::{Heard, Kind, OutFault, Outside, Why, Wrote};
 use css_server::Ticket;
 use css_sessions::Kind as SessionKind;
-use css_tv::{Tv, TvEvent};
+use css_tv::{Tv, TvEvent, TvOut};
 use std::alloc::Global;
+
+/// How a run ends when a call of the outside fails.
+pub(crate) fn fault_of(fault: OutFault) -> Driven
+    ensures { (old : Shown) → (new : Shown) → new.told ≡ old.told → new.counts.dial_faults ≡ old.counts.dial_faults
+        → CountsOutFault old.counts.faults new.counts.faults fault → Fails old new result }
+{
+    match fault {
+        OutFault::Failed(failure) => Driven::NetFault(failure),
+        OutFault::Memory => Driven::Memory,
+    }
+}
+
+/// Tells the television that a session closed.
+fn close(alloc: Global, tv: &mut Tv, peer: u32) -> Result<(), Driven>
+    ensures { (from : From) (now : Shown) (air : Loop) (place : Place) (rest : List Output)
+        → Leads from (Happens place rest (events.Closed peer)) (Settles place rest) now (with_tv air tv.old)
+        now (with_tv air tv.new) result }
+{
+    let mut none = Vec::new(alloc);
+    match tv.step(TvEvent::Closed { peer }, &mut none) {
+        Ok(()) => Ok(()),
+        Err(_) => Err(Driven::Memory),
+    }
+}
+
+/// Does one thing at a session. Where a text is told as gone, the session closed.
+fn put_one<O: Outside>(
+    alloc: Global,
+    tv: &mut Tv,
+    outside: &mut O,
+    out: &TvOut,
+) -> Result<(), Driven>
+    ensures { (from : From) (air : Loop) (place : Place) (rest : List Output)
+        → Leads from (Settles place (out.now ∷ rest)) (Settles place rest)
+        (shown (O.told outside.old) (O.counts outside.old)) (with_tv air tv.old)
+        (shown (O.told outside.new) (O.counts outside.new)) (with_tv air tv.new) result }
+{
+    match out {
+        TvOut::Say { peer, text } => match outside.send_text(*peer, text.bytes()) {
+            Ok(Wrote::Sent) => Ok(()),
+            Ok(Wrote::Gone) => close(alloc, tv, *peer),
+            Err(fault) => Err(fault_of(fault)),
+        },
+        TvOut::HangUp { peer } => match outside.hang_up(*peer) {
+            Ok(()) => Ok(()),
+            Err(fault) => Err(fault_of(fault)),
+        },
+    }
+}
+
+/// Does at the sessions what a step has the television do, in order.
+pub(crate) fn put_all<O: Outside>(
+    alloc: Global,
+    tv: &mut Tv,
+    outside: &mut O,
+    outs: &[TvOut],
+) -> Result<(), Driven>
+    ensures { (from : From) (air : Loop) (place : Place)
+        → Leads from (Settles place outs.now) (Settles place [])
+        (shown (O.told outside.old) (O.counts outside.old)) (with_tv air tv.old)
+        (shown (O.told outside.new) (O.counts outside.new)) (with_tv air tv.new) result }
+{
+    for out in outs {
+        put_one(alloc, tv, outside, out)?;
+    }
+    Ok(())
+}
+
+/// Lets something happen that the player has no part in, and does what it has the television do.
+pub(crate) fn play<O: Outside>(
+    alloc: Global,
+    tv: &mut Tv,
+    outside: &mut O,
+    event: TvEvent,
+) -> Result<(), Driven>
+    requires { IsEvent event tv.old.stage }
+    ensures { (from : From) (air : Loop) (place : Place)
+        → Leads from (Happens place [] event) (Settles place [])
+        (shown (O.told outside.old) (O.counts outside.old)) (with_tv air tv.old)
+        (shown (O.told outside.new) (O.counts outside.new)) (with_tv air tv.new) result }
+{
+    let mut outs = Vec::new(alloc);
+    match tv.step(event, &mut outs) {
+        Ok(()) => put_all(alloc, tv, outside, &outs),
+        Err(_) => Err(Driven::Memory),
+    }
+}
 
 /// Reads the clock. A television passes over sleeps.
 pub(crate) fn read<O: Outside>(outside: &mut O, why: Why) -> Result<u64, Driven>
@@ -34,9 +122,10 @@ pub(crate) fn read<O: Outside>(outside: &mut O, why: Why) -> Result<u64, Driven>
 
 /// Sends a datagram.
 fn send<O: Outside>(outside: &mut O, peer: u32, bytes: &[u8; 32]) -> Result<(), Driven>
-    ensures { Calls (shown (O.told outside.old) (O.counts outside.old))
-        (shown (O.told outside.new) (O.counts outside.new)) (λ old new _. Adds old new (Sent peer bytes.now ∷ []))
-        result }
+    ensures { (from : From) (air : Loop) (rest : List (List ℕ))
+        → Leads from (IsAt (Answers peer (bytes.now ∷ rest))) (IsAt (answering peer rest))
+        (shown (O.told outside.old) (O.counts outside.old)) air
+        (shown (O.told outside.new) (O.counts outside.new)) air result }
 {
     match outside.send_datagram(peer, bytes) {
         Ok(()) => Ok(()),
@@ -168,19 +257,18 @@ pub(crate) fn hear_all<O: Outside>(
 }
 
 /// Hangs up each open session, in order of peer.
-pub(crate) fn hang_up_all<O: Outside>(air: &OnAir, outside: &mut O) -> Result<(), Driven>
+pub(crate) fn hang_up_all<O: Outside>(air: &OnAir, outside: &mut O) -> Driven
     ensures { (from : From) → goes_on air.now.turns ≡ false
-        → Leads from (Comes at_end) (λ from now _. Stops from now driven.Done)
-        (shown (O.told outside.old) (O.counts outside.old)) air.now
-        (shown (O.told outside.new) (O.counts outside.new)) air.now result }
+        → Comes at_end from (shown (O.told outside.old) (O.counts outside.old)) air.now
+        → Stops from (shown (O.told outside.new) (O.counts outside.new)) result }
 {
     for peer in &air.peers {
         if air.tv.is_open(*peer) {
             match outside.hang_up(*peer) {
                 Ok(()) => {}
-                Err(fault) => return Err(fault_of(fault)),
+                Err(fault) => return fault_of(fault),
             }
         }
     }
-    Ok(())
+    Driven::Done
 }

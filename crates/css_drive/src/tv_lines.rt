@@ -11,7 +11,7 @@ ghost use Rattle.css_drive.specs.declared.on_air.OnAir.{OnAir as Loop};
 
 use crate::driven::Driven;
 use crate::on_air::OnAir;
-use crate::tv_outputs::put_all;
+use crate::tv_calls::put_all;
 use css_model::LIMIT;
 use css_num::Memory;
 use css_outside::Outside;
@@ -71,7 +71,7 @@ fn carry_out<O: Outside>(
     };
     let mut outs = Vec::new(alloc);
     match tv.step(event, &mut outs) {
-        Ok(()) => put_all(alloc, tv, outside, &mut outs),
+        Ok(()) => put_all(alloc, tv, outside, &outs),
         Err(TvFault::Memory) => Err(Driven::Memory),
         Err(TvFault::Player(fault)) => Err(Driven::BadLine {
             line: before as u64 + 1,

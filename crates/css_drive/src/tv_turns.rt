@@ -1,23 +1,20 @@
-ghost use Rattle.std.specs.Prelude.{◌≡◌, ◌≤◌, ◌≤ℤ◌, pos, true, List, All, OnOk, IfOk, MatchResult};
+ghost use Rattle.std.specs.Prelude.{◌≡◌, ◌≤◌, ◌≤ℤ◌, pos, true, All, OnOk};
 ghost use Rattle.std.specs.Str.{IsUtf8};
 ghost use Rattle.css_model.specs.Numbers.{max_error};
 ghost use Rattle.css_outside.specs.Limits.{IsLimit};
 ghost use Rattle.css_schedule.specs.Ranges.{IsScriptLine};
-ghost use Rattle.css_schedule.specs.declared.line.ScriptLine.{ScriptLine as Line};
 ghost use Rattle.css_drive.specs.CompanionStanding.{shown};
 ghost use Rattle.css_drive.specs.TvDue.{run_of};
 ghost use Rattle.css_drive.specs.TvTurns.{IsRanged, IsOneMore, goes_on};
 ghost use Rattle.css_drive.specs.TvRan.{TvRan, CountsTvRun};
-ghost use Rattle.css_drive.specs.TvStanding.{From, Stops, Comes, Leads, IsTurned, IsReady, started, at_end};
-ghost use Rattle.css_drive.specs.declared.driven.Driven.TheVariants as driven;
+ghost use Rattle.css_drive.specs.TvStanding.{From, Stops, Comes, Leads, IsTurned, IsReady, at_end};
 
 use crate::driven::Driven;
 use crate::on_air::OnAir;
 use crate::turns::Turns;
-use crate::tv_calls::{hang_up_all, hear_all, read, serve, welcome};
+use crate::tv_calls::{fault_of, hang_up_all, hear_all, read, serve, welcome};
 use crate::tv_config::TvDrive;
 use crate::tv_lines::carry_lines;
-use crate::tv_outputs::fault_of;
 use css_outside::{Outside, Why};
 use css_schedule::ScriptLine;
 use css_tv::Tv;
@@ -76,48 +73,21 @@ fn make_turns<O: Outside>(
     air: &mut OnAir,
     script: &[ScriptLine],
     outside: &mut O,
-) -> Result<(), Driven>
+) -> Driven
     requires script { All IsScriptLine script.now }
     requires ranged { IsRanged air.old.turns }
     requires ready { IsReady (shown (O.told outside.old) (O.counts outside.old)) air.old script.now }
     ensures { (from : From) → from.run.script ≡ script.now
-        → Leads from (Comes at_end) (λ from now _. Stops from now driven.Done)
-        (shown (O.told outside.old) (O.counts outside.old)) air.old
-        (shown (O.told outside.new) (O.counts outside.new)) air.new result }
+        → Comes at_end from (shown (O.told outside.old) (O.counts outside.old)) air.old
+        → Stops from (shown (O.told outside.new) (O.counts outside.new)) result }
 {
     'turns: while air.turns.goes_on() {
-        turn(alloc, air, outside, script)?;
+        match turn(alloc, air, outside, script) {
+            Ok(()) => {}
+            Err(ended) => return ended,
+        }
     }
     hang_up_all(air, outside)
-}
-
-/// Listens, and makes a television that has done nothing yet.
-fn start<O: Outside>(alloc: Global, run: TvDrive, outside: &mut O) -> Result<OnAir, Driven>
-    requires precision { run.tv.precision ≤ℤ pos 30 }
-    requires error { run.tv.error ≤ max_error }
-    requires host { IsUtf8 run.tv.host }
-    requires port { run.tv.port ≤ 65534 }
-    requires limit { IsLimit run.limit }
-    ensures goes { (script : List Line)
-        → let from = started (run_of run script) (shown (O.told outside.old) (O.counts outside.old)) in
-        let now = shown (O.told outside.new) (O.counts outside.new) in
-        MatchResult result (Comes at_end from now) (Stops from now) }
-    ensures ranged { IfOk result (λ air. IsRanged air.turns) }
-{
-    let turns = Turns::new(run.limit, run.relative);
-    match outside.listen(&run.tv.host, run.tv.port) {
-        Ok(()) => {}
-        Err(fault) => return Err(fault_of(fault)),
-    }
-    match Tv::new(alloc, run.tv) {
-        Err(_) => Err(Driven::Memory),
-        Ok(tv) => Ok(OnAir {
-            tv,
-            peers: Vec::new(alloc),
-            lines: 0,
-            turns,
-        }),
-    }
 }
 
 /// Makes a television's run: it listens, makes turns up to its limit, and hangs up the sessions that are open then.
@@ -141,14 +111,21 @@ pub fn drive_tv<O: Outside>(
     ensures ran { TvRan (run_of run script.now) (O.told outside.old) (O.told outside.new) result }
     ensures counted { CountsTvRun (O.counts outside.old) (O.counts outside.new) result }
 {
-    let mut air = match start(alloc, run, outside) {
-        Ok(air) => air,
-        Err(ended) => return ended,
-    };
-    let made = make_turns(alloc, &mut air, script, outside);
-    drop(air);
-    match made {
-        Ok(()) => Driven::Done,
-        Err(ended) => ended,
+    let turns = Turns::new(run.limit, run.relative);
+    match outside.listen(&run.tv.host, run.tv.port) {
+        Ok(()) => {}
+        Err(fault) => return fault_of(fault),
     }
+    let mut air = match Tv::new(alloc, run.tv) {
+        Err(_) => return Driven::Memory,
+        Ok(tv) => OnAir {
+            tv,
+            peers: Vec::new(alloc),
+            lines: 0,
+            turns,
+        },
+    };
+    let ended = make_turns(alloc, &mut air, script, outside);
+    drop(air);
+    ended
 }

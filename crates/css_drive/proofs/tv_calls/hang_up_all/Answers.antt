@@ -1,7 +1,7 @@
 use Rattle.std.proofs.Common.{◌≡◌, ◌+◌, ◌∙◌, ◌∷◌, ℕ, List, subst, arith, drop, get_or, refl, [], true, false}
 use Rattle.css_model.specs.History.{HungUp}
 use Rattle.css_drive.specs.TvStanding.{hanging_up}
-use Rattle.css_drive.proofs.TvSteps.{is_live, not_open, adds, failed, made, peers_all, turns_over, next_left}
+use Rattle.css_drive.proofs.TvSteps.{is_live, not_open, adds, failed, made, turns_over, next_left}
 use Rattle.css_drive.proofs.TvSteps.{left_after, none_left, all_hung, peer_from}
 use Rattle.css_drive.proofs.tv_calls.hang_up_all.Goals.{then-is_open+in-Ok, else-is_open}
 use Rattle.css_drive.proofs.tv_calls.hang_up_all.Goals as goal
@@ -20,7 +20,8 @@ loop-peer-preserved g c = λ from enough s.
     let x = c.loop-peer.invariant from enough s in
     elim c.if-is_open.branch [
       | then-is_open+in-Ok w ↦
-          let due = next_left hanging_up i x peer e true (is_live x.is_at peer ∙ c.is_open.ensures.0 w.if-is_open.true) in
+          let due = next_left hanging_up i x peer e true
+          (is_live x.is_at peer ∙ c.is_open.ensures.0 w.if-is_open.true) in
           rw w.outside-is
           (left_after hanging_up (made due (HungUp peer ∷ []) tt refl
           (adds w.in-Ok.ensures.told w.in-Ok.ensures.counted)) i peer (λ live. refl) e)
@@ -36,6 +37,5 @@ returns-in-Err g c from enough s =
 
 pub returns : goal.returns
 returns g c from enough s =
-    let over = c.loop-peer-test.false in
     all_hung (none_left hanging_up c.loop-peer.peer-index (c.loop-peer.invariant from enough s)
-    (peers_all c.args.air.now.peers.items c.loop-peer.peer-index (omega (arith, over)))) enough
+    (omega (arith, c.loop-peer-test.false))) enough

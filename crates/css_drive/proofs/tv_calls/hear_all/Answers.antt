@@ -2,7 +2,7 @@ use Rattle.std.proofs.Common.{rules, ◌∙◌, ℕ, arith, refl, true, false}
 use Rattle.css_drive.specs.declared.on_air.OnAir.{OnAir}
 use Rattle.css_drive.specs.TvDue.{from_texts}
 use Rattle.css_drive.proofs.CompanionSteps.{at_err}
-use Rattle.css_drive.proofs.TvSteps.{left_at, peers_all, all_left, next_left, left_after, peer_removed, none_left}
+use Rattle.css_drive.proofs.TvSteps.{left_at, all_left, next_left, left_after, peer_removed, none_left}
 use Rattle.css_drive.proofs.TvSteps.{is_live, not_open}
 use Rattle.css_drive.proofs.tv_calls.hear_all.Goals as goal
 
@@ -16,9 +16,8 @@ pub returns-in_err-hear-clause-goes : goal.returns-in_err-hear-clause-goes
 returns-in_err-hear-clause-goes g c from s =
     let i : ℕ = c.peers.at in
     let peer : ℕ = c.index-peer.result.now in
-    let test = c.peers-test.true in
     let x = c.peers.invariant.goes from s in
-    let e = left_at c.peers.air.peers.items i peer (omega (arith, test)) c.index-peer.ensures in
+    let e = left_at c.peers.air.peers.items i peer (omega (arith, c.peers-test.true)) c.index-peer.ensures in
     at_err _ _ _ _ c.from_residual.ensures.1 (c.in_err-hear.ensures from c.peers.air
     (next_left from_texts i x peer e true (is_live x.is_at peer ∙ c.is_open.ensures.0 c.if-is_open.true)))
 
@@ -27,9 +26,8 @@ peers-preserved-then-is_open g c = record {
   goes = λ from s.
       let i : ℕ = c.peers.at in
       let peer : ℕ = c.index-peer.result.now in
-      let test = c.peers-test.true in
       let x = c.peers.invariant.goes from s in
-      let e = left_at c.peers.air.peers.items i peer (omega (arith, test)) c.index-peer.ensures in
+      let e = left_at c.peers.air.peers.items i peer (omega (arith, c.peers-test.true)) c.index-peer.ensures in
       left_after from_texts (c.in_ok-hear.ensures from c.peers.air
       (next_left from_texts i x peer e true (is_live x.is_at peer ∙ c.is_open.ensures.0 c.if-is_open.true))) i peer
       (λ live. refl) e;
@@ -40,15 +38,9 @@ pub peers-preserved : goal.peers-preserved
 peers-preserved g c = record {
   goes = λ from s.
       let peer : ℕ = c.index-peer.result.now in
-      let test = c.peers-test.true in
       let x = c.peers.invariant.goes from s in
-      let now : OnAir = record {
-        tv = c.peers.air.tv;
-        peers = c.remove.new.self;
-        lines = c.peers.air.lines;
-        turns = c.peers.air.turns;
-      } in
-      let e = left_at c.peers.air.peers.items c.peers.at peer (omega (arith, test)) c.index-peer.ensures in
+      let now : OnAir = record c.peers.air { peers = c.remove.new.self } in
+      let e = left_at c.peers.air.peers.items c.peers.at peer (omega (arith, c.peers-test.true)) c.index-peer.ensures in
       let y = next_left from_texts c.peers.at x peer e false
       (is_live x.is_at peer ∙ not_open _ _ c.is_open.ensures c.if-is_open.false) in
       peer_removed from_texts c.peers.at peer e y
@@ -58,6 +50,4 @@ peers-preserved g c = record {
 
 pub returns-clause-goes : goal.returns-clause-goes
 returns-clause-goes g c from s =
-    let over = c.peers-test.false in
-    none_left from_texts c.peers.at (c.peers.invariant.goes from s)
-    (peers_all c.peers.air.peers.items c.peers.at (omega (arith, over)))
+    none_left from_texts c.peers.at (c.peers.invariant.goes from s) (omega (arith, c.peers-test.false))

@@ -9,7 +9,8 @@ abbrev pub invariant-peers : goal.invariant-peers
 invariant-peers g l = record {
   goes : (from : From)
       → IsAt (Asked None) from (shown (g.O.Outside.told l.fn.outside) (g.O.Outside.counts l.fn.outside)) l.fn.air
-      → Comes (left_from from_texts l.at) from (shown (g.O.Outside.told l.outside) (g.O.Outside.counts l.outside)) l.air;
+      → Comes (left_from from_texts l.at) from
+      (shown (g.O.Outside.told l.outside) (g.O.Outside.counts l.outside)) l.air;
   turns : l.air.turns ≡ l.fn.air.turns;
 }
 

@@ -5,10 +5,5 @@ use Rattle.css_drive.proofs.tv_calls.open.Goals as goal
 
 pub returns-clause-goes : goal.returns-clause-goes
 returns-clause-goes g c from x =
-    let now : OnAir = record {
-      tv = c.args.air.now.tv;
-      peers = c.push.new.self;
-      lines = c.args.air.now.lines;
-      turns = c.args.air.now.turns;
-    } in
+    let now : OnAir = record c.args.air.now { peers = c.push.new.self } in
     c.play.ensures from now (Asked None) (x.happens now c.in-Ok.ensures.items)

@@ -1,5 +1,6 @@
 use Rattle.std.proofs.Common.{ap, refl, [], ◌∷◌, None}
 use Rattle.css_model.specs.History.{NoneCame}
+use Rattle.css_model.specs.declared.Kind.TheVariants as peer_kind
 use Rattle.css_num.specs.declared.protocol.Kind.TheVariants as kind
 use Rattle.css_outside.specs.Outsides.{Counts}
 use Rattle.css_drive.proofs.TvSteps.{moved, welcomes}
@@ -18,18 +19,16 @@ returns-in-Ok-None-clause-goes g c from s =
 pub returns-in-Ok-Some-default-Cii-clause-goes : goal.returns-in-Ok-Some-default-Cii-clause-goes
 returns-in-Ok-Some-default-Cii-clause-goes g c from s =
     let w = c.in-Ok-Some-default-Cii in
-    let told = rw w.field-0-0-1-is at (rw w.field-0-is at w.ensures.told) in
-    let opens = rw w.field-0-0-1-is at (rw w.field-0-is at w.ensures.counted.peer) in
-    c.open.ensures.goes from (welcomes s w.peer kind.Cii told (ap (λ (x : Counts). x.dial_faults) w.ensures.counted.same)
-    w.ensures.counted.faults opens.0 opens.1)
+    c.open.ensures.goes from (welcomes s w.peer peer_kind.Cii kind.Cii (λ p. refl)
+    (rw w.field-0-0-1-is at (rw w.field-0-is at w.ensures.told))
+    (rw w.field-0-0-1-is at (rw w.field-0-is at w.ensures.counted)))
 
 pub returns-in-Ok-Some-default-Ts-clause-goes : goal.returns-in-Ok-Some-default-Ts-clause-goes
 returns-in-Ok-Some-default-Ts-clause-goes g c from s =
     let w = c.in-Ok-Some-default-Ts in
-    let told = rw w.field-0-0-1-is at (rw w.field-0-is at w.ensures.told) in
-    let opens = rw w.field-0-0-1-is at (rw w.field-0-is at w.ensures.counted.peer) in
-    c.open-in-Ok-Some-default-Ts.ensures.goes from (welcomes s w.peer kind.Ts told
-    (ap (λ (x : Counts). x.dial_faults) w.ensures.counted.same) w.ensures.counted.faults opens.0 opens.1)
+    c.open-in-Ok-Some-default-Ts.ensures.goes from (welcomes s w.peer peer_kind.Ts kind.Ts (λ p. refl)
+    (rw w.field-0-0-1-is at (rw w.field-0-is at w.ensures.told))
+    (rw w.field-0-0-1-is at (rw w.field-0-is at w.ensures.counted)))
 
 pub returns-in-Err-clause-goes : goal.returns-in-Err-clause-goes
 returns-in-Err-clause-goes g c from s =

@@ -1,41 +1,33 @@
-use Rattle.std.proofs.Common.{◌∙◌, ◌+◌, arith, ap, sym, refl, List, ℕ, drop}
-use Rattle.css_schedule.specs.declared.line.ScriptLine.{ScriptLine}
+use Rattle.std.proofs.Common.{◌∙◌, arith, ap, sym, refl}
 use Rattle.css_drive.proofs.CompanionSteps.{at_err}
 use Rattle.css_drive.specs.TvTurns.{since}
-use Rattle.css_drive.proofs.TvSteps.{carries, line_waits, no_line, waits_by, left_at, peers_all}
+use Rattle.css_drive.proofs.TvSteps.{carries, line_waits, no_line}
 use Rattle.css_drive.proofs.tv_lines.carry_lines.Goals as goal
 
 pub returns-then-reading-from-clause-goes : goal.returns-then-reading-from-clause-goes
 returns-then-reading-from-clause-goes g c from script s =
-    let xs : List ScriptLine = c.args.script.now in
-    let line : ScriptLine = c.index-script-air.result in
-    let i : ℕ = c.lines.air.lines in
-    line_waits c.args.reading (c.lines.invariant.goes from script s) line (drop (i + 1) xs)
-    (ap (drop i) script ∙ left_at xs i line c.lines-test.true c.index-script-air.is)
-    (waits_by (since c.lines.air.turns) c.args.reading line c.since-from.result
-    (ap since c.lines.invariant.turns ∙ sym c.since-from.ensures.value) c.if-reading-from.true)
+    line_waits c.args.reading (c.lines.invariant.goes from script s) c.args.script.now script
+    c.index-script-air.result c.lines-test.true c.index-script-air.is c.since-from.result
+    (ap since c.lines.invariant.turns ∙ sym c.since-from.ensures.value) c.if-reading-from.true
 
 pub returns-in_err-carry_out-clause-goes : goal.returns-in_err-carry_out-clause-goes
 returns-in_err-carry_out-clause-goes g c from script s =
-    let later = c.if-reading-from.false in
     at_err _ _ _ _ c.from_residual.ensures.1 (c.in_err-carry_out.ensures from c.lines.air refl
     (carries c.args.reading (c.lines.invariant.goes from script s) c.args.script.now script
     c.index-script-air.result c.lines-test.true c.index-script-air.is c.since-from.result
-    (ap since c.lines.invariant.turns ∙ sym c.since-from.ensures.value) (omega (arith, later))))
+    (ap since c.lines.invariant.turns ∙ sym c.since-from.ensures.value) (omega (arith, c.if-reading-from.false))))
 
 pub lines-preserved : goal.lines-preserved
 lines-preserved g c = record {
   goes = λ from script s.
-      let later = c.if-reading-from.false in
       c.in_ok-carry_out.ensures from c.lines.air refl
       (carries c.args.reading (c.lines.invariant.goes from script s) c.args.script.now script
       c.index-script-air.result c.lines-test.true c.index-script-air.is c.since-from.result
-      (ap since c.lines.invariant.turns ∙ sym c.since-from.ensures.value) (omega (arith, later)));
+      (ap since c.lines.invariant.turns ∙ sym c.since-from.ensures.value) (omega (arith, c.if-reading-from.false)));
   turns = c.lines.invariant.turns;
 }
 
 pub returns-clause-goes : goal.returns-clause-goes
 returns-clause-goes g c from script s =
-    let over = c.lines-test.false in
-    no_line c.args.reading (c.lines.invariant.goes from script s)
-    (ap (drop c.lines.air.lines) script ∙ peers_all c.args.script.now c.lines.air.lines (omega (arith, over)))
+    no_line c.args.reading (c.lines.invariant.goes from script s) c.args.script.now script
+    (omega (arith, c.lines-test.false))

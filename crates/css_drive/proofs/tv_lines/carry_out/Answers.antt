@@ -6,7 +6,7 @@ use Rattle.css_drive.specs.CompanionStanding.{shown}
 use Rattle.css_drive.specs.TvProgress.{Turned, event_of}
 use Rattle.css_drive.specs.TvStanding.{Stops, past_line}
 use Rattle.css_drive.specs.declared.driven.Driven.TheVariants as driven
-use Rattle.css_drive.proofs.TvSteps.{heard_of, passed_over, line_happens, line_refused}
+use Rattle.css_drive.proofs.TvSteps.{heard_of, owing, passed_over, line_happens, line_refused}
 use Rattle.css_drive.proofs.tv_lines.carry_out.Goals as goal
 
 pub returns-in-Ok-None : goal.returns-in-Ok-None
@@ -18,9 +18,10 @@ returns-in-Ok g c from air lines x =
     let is : Some e ≡ event_of c.args.reading c.args.line.now.verb =
     rw c.in-Ok-Some.field-0-is at c.in-Ok-Some.ensures.value in
     let done = rw c.new-outs.ensures.items at c.in-Ok.ensures.outcome in
-    c.put_all.ensures from (past_line air) (Turned c.args.reading)
+    c.put_all.ensures from (past_line air) (Turned c.args.reading) (owing (Turned c.args.reading)
+    (sym c.deref.ensures.value)
     (heard_of (line_happens x e is c.step.new.self.stage c.step.new.out.items done) c.step.new.self c.step.new.out.items
-    done c.in-Ok.ensures.stands c.in-Ok.ensures.server)
+    done c.in-Ok.ensures.stands c.in-Ok.ensures.server))
 
 pub returns : goal.returns
 returns g c from air lines x =

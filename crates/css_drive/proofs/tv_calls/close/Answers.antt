@@ -1,6 +1,6 @@
 use Rattle.std.proofs.Common.{◌++◌, ◌∙◌, ap, append-nil}
 use Rattle.css_drive.proofs.TvSteps.{heard_of, owing}
-use Rattle.css_drive.proofs.tv_outputs.close.Goals as goal
+use Rattle.css_drive.proofs.tv_calls.close.Goals as goal
 
 pub returns-in-Ok : goal.returns-in-Ok
 returns-in-Ok c from now air place rest x =

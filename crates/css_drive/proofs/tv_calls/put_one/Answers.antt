@@ -4,7 +4,7 @@ use Rattle.css_outside.specs.declared.calls.Wrote.TheVariants as wrote
 use Rattle.css_tv.specs.declared.event.TvEvent.TheVariants as event
 use Rattle.css_tv.specs.declared.event.TvOut.TheVariants as out
 use Rattle.css_drive.proofs.TvSteps.{adds, failed, moved, happens, waiting}
-use Rattle.css_drive.proofs.tv_outputs.put_one.Goals as goal
+use Rattle.css_drive.proofs.tv_calls.put_one.Goals as goal
 
 pub returns-in-Ok-Sent : goal.returns-in-Ok-Sent
 returns-in-Ok-Sent g c from air place rest s =

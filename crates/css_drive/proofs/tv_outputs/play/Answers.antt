@@ -1,8 +1,0 @@
-use Rattle.css_drive.proofs.TvSteps.{heard_of}
-use Rattle.css_drive.proofs.tv_outputs.play.Goals as goal
-
-pub returns-in-Ok : goal.returns-in-Ok
-returns-in-Ok g c from air place x =
-    c.put_all.ensures from air place
-    (heard_of x c.step.new.self c.step.new.out.items (rw c.new-outs.ensures.items at c.in-Ok.ensures.outcome)
-    c.in-Ok.ensures.stands c.in-Ok.ensures.server)
