@@ -14,7 +14,7 @@ use Rattle.css_drive.specs.Proper.{Due, Listen, Now, Dial, Accept, SendDatagram,
 use Rattle.css_drive.specs.Proper.{HangUp, Ends, MayAdd, Empty, More}
 use Rattle.css_model.specs.declared.Kind.{Kind}
 use Rattle.css_model.specs.declared.Why.{Why}
-use Rattle.css_model.specs.History.{Entry, History, Address, Each, Listening, Slept, Clock, Dialling, Dialled}
+use Rattle.css_model.specs.History.{Entry, History, Address, Each, Slept, Clock, Dialling, Dialled}
 use Rattle.css_model.specs.History.{NotDialled, Accepted, NoneCame, Sent, Took, TookNone, Quiet, Heard, Closed, Wrote}
 use Rattle.css_model.specs.History.{Gone, HungUp, request_in}
 use Rattle.css_model.specs.Wire.{encoded, request_at}
@@ -399,12 +399,10 @@ moves run older (Clock w reading) is p = absurd is
 moves run older (Dialled k peer) is p = absurd is
 moves run older (Took peer bytes) is p = absurd is
 moves run older (HungUp peer) is p = absurd is
-moves run older (Listening host port) is p = (refl, refl, refl, refl, inr tt)
-moves run older (NotDialled k) is p = (refl, refl, refl, refl, inr tt)
-moves run older TookNone is p = (refl, refl, refl, refl, inr tt)
 moves run older Slept is p = (refl, refl, refl, refl, inl refl)
 moves run older (Dialling k to) is p = (refl, refl, refl, refl, inl refl)
 moves run older NoneCame is p = (refl, refl, refl, refl, inr (rest_next p.facts.television p.facts.peers))
+moves run older _ is p = (refl, refl, refl, refl, inr tt)
 
 -- ---- places at which the turns aren't over
 over_rest : (place : Place) → IsRest place → IsOver place → ⊥
@@ -470,7 +468,8 @@ module _ (run : RelayRun) (older : History) (t : Good run older) where
   after (Clock why.Turn reading) c = record {
     turns = ap (λ (x : Turns). (x.0 + 1, Some (unwrap_or x.1 reading), Some reading)) t.turns;
     few = let more = c.2.1 in omega (arith, more);
-    over = λ e. absurd (on_begun (λ place. IsOver place → ⊥) run (places.with_turn reading p.facts) (λ e. e) (λ e. e) e);
+    over =
+        λ e. absurd (on_begun (λ place. IsOver place → ⊥) run (places.with_turn reading p.facts) (λ e. e) (λ e. e) e);
     dialled = t.dialled;
   }
   after (Clock why.Ask reading) c =

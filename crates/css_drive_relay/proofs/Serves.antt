@@ -90,7 +90,8 @@ module _ {run : RelayRun} {start now mid : Shown} {live later : Live} {history :
       → Stands run start mid is (stood later (received peer result)) (clock_entries why.Take clocked ++ history)
   receives {peer} {bytes} s some r result value =
       stands_read s (ap from_taken some) tt r (stood later (received peer result))
-      (known_as later (λ own h. received_after own h clocked.reading bytes) (received peer) (r.known run history s.knows) value)
+      (known_as later (λ own h. received_after own h clocked.reading bytes) (received peer)
+      (r.known run history s.knows) value)
       (unnamed history (received peer result) (by result))
     where
       by : (x : Result Ticket RelayFault) → named (received peer x) ≡ []
@@ -148,12 +149,13 @@ module _ (live : Live) {run : RelayRun} {start now next : Shown} {history : Hist
           (All-append New live.peers.items (peer ∷ []) all own, own, s.runs.peers.2)
       peers false = (all, All-nil New, s.runs.peers.2)
 
-module _ {run : RelayRun} {start now : Shown} {p : Progress} {history : History} (s : Runs run start now p history) where
+module _ {run : RelayRun} {start now : Shown} {p : Progress} {history : History}
+    (s : Runs run start now p history) where
   -- the session that a place names first was not dialled
   pub its_none : {peer : ℕ} {left : List ℕ} → named p.place ≡ peer ∷ left → kind_of peer history ≡ None
   its_none {peer} {left} e =
-      undialled (now.counts.peers + 1) history peer s.ordered
-      (All-head (Came history) peer left (subst (λ (xs : List ℕ). All (Came history) xs) e s.peers.1))
+      (undialled (now.counts.peers + 1) history peer s.ordered
+      (All-head (Came history) peer left (subst (λ (xs : List ℕ). All (Came history) xs) e s.peers.1))).1
 
   -- the television's was, as one of CSS-CII
   pub its_kind : {peer : ℕ} → p.facts.television ≡ Some peer → kind_of peer history ≡ Some kind.Cii
@@ -189,8 +191,8 @@ module _ (live : Live) {run : RelayRun} {start now next : Shown} {history : Hist
     (s : Stands run start now relay (stood live (Welcomed peer)) history) where
   -- its text was heard, and is refused or not
   heard : (bytes : List ℕ) → Adds now next (Heard peer bytes ∷ [])
-      → Runs run start next (television_told (refusal_of (Some bytes) history) (relayed run (Heard peer bytes ∷ history))
-      (facts_in live)) (Heard peer bytes ∷ history)
+      → Runs run start next (television_told (refusal_of (Some bytes) history)
+      (relayed run (Heard peer bytes ∷ history)) (facts_in live)) (Heard peer bytes ∷ history)
   heard bytes =
       runs_on s.runs (Heard peer bytes) (session.Text bytes, refl) (λ o. o) (by (refusal_of (Some bytes) history))
     where
@@ -231,8 +233,8 @@ module _ (live : Live) {run : RelayRun} {start now next : Shown} {history : Hist
       (Heard peer bytes ∷ history)
   taken_in bytes a accepts later k = record {
     runs = runs_as (heard bytes a) (published (relayed_state later.wc_url later.companion.state) (facts_in live))
-        (ap (λ (x : Option CompanionFault). television_told x (relayed run (Heard peer bytes ∷ history)) (facts_in live))
-        accepts
+        (ap (λ (x : Option CompanionFault). television_told x (relayed run (Heard peer bytes ∷ history))
+        (facts_in live)) accepts
         ∙ ap (λ (x : List ℕ). published (relayed_state x (state_of (Heard peer bytes ∷ history))) (facts_in live))
         (sym k.wc_url)
         ∙ ap (λ (x : State). published (relayed_state later.wc_url x) (facts_in live)) (sym k.stands.state));

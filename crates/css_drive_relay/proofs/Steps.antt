@@ -60,18 +60,15 @@ in_order_later n m (Dialled k peer ∷ older) o le = let lt = o.0 in (omega (ari
 in_order_later n m (Accepted peer k ∷ older) o le = let lt = o.0 in (omega (arith, lt, le), o.1)
 in_order_later n m (_ ∷ older) o le = in_order_later n m older o le
 
-below : (n m : ℕ) (h : History) → AreInOrder n h → n ≤ m → AreBelow m h
-below n m [] o le = tt
-below n m (Dialled k peer ∷ older) o le = let lt = o.0 in below peer m older o.1 (omega (arith, lt, le))
-below n m (Accepted peer k ∷ older) o le =
-    let lt = o.0 in (omega (arith, lt, le), below peer m older o.1 (omega (arith, lt, le)))
-below n m (_ ∷ older) o le = below n m older o le
-
-pub numbered : (n : ℕ) (h : History) → AreInOrder n h → AreNumbered h
-numbered n [] o = tt
-numbered n (Dialled k peer ∷ older) o = numbered peer older o.1
-numbered n (Accepted peer k ∷ older) o = (below peer peer older o.1 (omega arith), numbered peer older o.1)
-numbered n (_ ∷ older) o = numbered n older o
+numbered : (n m : ℕ) (h : History) → AreInOrder n h → n ≤ m → AreBelow m h × AreNumbered h
+numbered n m [] o le = (tt, tt)
+numbered n m (Dialled k peer ∷ older) o le = let lt = o.0 in numbered peer m older o.1 (omega (arith, lt, le))
+numbered n m (Accepted peer k ∷ older) o le =
+    let lt = o.0 in (
+      (omega (arith, lt, le), (numbered peer m older o.1 (omega (arith, lt, le))).0),
+      numbered peer peer older o.1 (omega arith),
+    )
+numbered n m (_ ∷ older) o le = numbered n m older o le
 
 -- a peer with a greater number was not dialled
 pub unused : (n : ℕ) (h : History) (peer : ℕ) → AreInOrder n h → n ≤ peer → kind_of peer h ≡ None
@@ -83,24 +80,24 @@ unused n (Dialled k q ∷ older) peer o le =
 unused n (Accepted q k ∷ older) peer o le = let lt = o.0 in unused q older peer o.1 (omega (arith, lt, le))
 unused n (_ ∷ older) peer o le = unused n older peer o le
 
--- one that was accepted was not dialled
-came_below : (n : ℕ) (h : History) (peer : ℕ) → AreInOrder n h → Came h peer → peer < n
-came_below n [] peer o c = absurd c
-came_below n (Dialled k q ∷ older) peer o c = let lt = o.0 in let less = came_below q older peer o.1 c in
-    omega (arith, lt, less)
-came_below n (Accepted q k ∷ older) peer o (inl e) = let lt = o.0 in omega (arith, lt, e)
-came_below n (Accepted q k ∷ older) peer o (inr c) = let lt = o.0 in let less = came_below q older peer o.1 c in
-    omega (arith, lt, less)
-came_below n (_ ∷ older) peer o c = came_below n older peer o c
-
-pub undialled : (n : ℕ) (h : History) (peer : ℕ) → AreInOrder n h → Came h peer → kind_of peer h ≡ None
-undialled n [] peer o c = refl
+-- one that was accepted has a number below, and was not dialled
+pub undialled : (n : ℕ) (h : History) (peer : ℕ) → AreInOrder n h → Came h peer
+    → (peer < n) × (kind_of peer h ≡ None)
+undialled n [] peer o c = absurd c
 undialled n (Dialled k q ∷ older) peer o c =
-    let less = came_below q older peer o.1 c in
-    ap (λ b. option_or (cond b (Some k) None) (kind_of peer older)) (ne_eqb q peer (λ e. omega (arith, less, e)))
-    ∙ undialled q older peer o.1 c
-undialled n (Accepted q k ∷ older) peer o (inl e) = unused q older peer o.1 (omega (arith, e))
-undialled n (Accepted q k ∷ older) peer o (inr c) = undialled q older peer o.1 c
+    let lt = o.0 in
+    let x = undialled q older peer o.1 c in
+    let less = x.0 in (
+      omega (arith, lt, less),
+      ap (λ b. option_or (cond b (Some k) None) (kind_of peer older)) (ne_eqb q peer (λ e. omega (arith, less, e)))
+          ∙ x.1,
+    )
+undialled n (Accepted q k ∷ older) peer o (inl e) =
+    let lt = o.0 in (omega (arith, lt, e), unused q older peer o.1 (omega (arith, e)))
+undialled n (Accepted q k ∷ older) peer o (inr c) =
+    let lt = o.0 in
+    let x = undialled q older peer o.1 c in
+    let less = x.0 in (omega (arith, lt, less), x.1)
 undialled n (_ ∷ older) peer o c = undialled n older peer o c
 
 -- ---- sessions that places name
@@ -177,8 +174,8 @@ module _ {run : RelayRun} {relay : Relay} {history : History} (k : Knows run rel
   aside (Dialled kind peer) is = absurd is
   aside (Accepted peer kind) is = absurd is
   aside (Sent peer bytes) is =
-      knows_plain k (Sent peer bytes) refl refl (ap (λ (o : Option Message). option_map (λ message. message.originate) o)
-      is) refl refl refl refl
+      knows_plain k (Sent peer bytes) refl refl
+      (ap (λ (o : Option Message). option_map (λ message. message.originate) o) is) refl refl refl refl
   aside (Heard peer bytes) is =
       knows_plain k (Heard peer bytes) refl refl refl refl (ap (λ o. cond (is_cii o) (Some bytes) None) is)
       (ap (λ o. cond (is_ts o) (Some bytes) None) is) refl
@@ -264,7 +261,7 @@ module _ {run : RelayRun} {start now next : Shown} {p : Progress} {history : His
     progress = progress;
     peers = peers;
     ordered = ordered;
-    numbered = numbered (next.counts.peers + 1) (call ++ history) ordered;
+    numbered = (numbered _ (next.counts.peers + 1) (call ++ history) ordered (omega arith)).1;
   }
 
   -- one entry is added
@@ -421,7 +418,8 @@ module _ (live : Live) {run : RelayRun} {start now : Shown} {relay : Relay} {his
     All-nil (Came history),
     IfSome_then live.television s.runs.peers.2 (λ peer is.
         ap (λ b. option_or (cond b (Some kind.Wc) None) (kind_of peer history)) (ne_eqb q peer (λ e.
-        let none = unused (now.counts.peers + 1) history peer s.runs.ordered (omega (arith, lt, e)) in absurd (cc))) ∙ is),
+        let none = unused (now.counts.peers + 1) history peer s.runs.ordered (omega (arith, lt, e)) in absurd (cc)))
+        ∙ is),
   )
   knows_dialled kind.Ts q lt opens = absurd (cc)
 
@@ -477,8 +475,8 @@ module _ {run : RelayRun} {start now : Shown} {live : Live} {relay : Relay} wher
       record {
         history = HungUp peer ∷ x.history;
         place = Over rest;
-        stands = stands_as (stands_on x.stands (HungUp peer) (may_as (x.next ∙ ap (from_hang_ups (final (facts_in live)))
-            is) (HungUp peer ∷ []) refl) tt
+        stands = stands_as (stands_on x.stands (HungUp peer)
+            (may_as (x.next ∙ ap (from_hang_ups (final (facts_in live))) is) (HungUp peer ∷ []) refl) tt
             (λ y. subst (λ (at : Place). KnowsPeers (stood live at) x.history) (sym goes)
             (y.0, All-nil (Came x.history), y.2)) a) (stood live (Over rest)) (ap (stood live) goes);
         next = refl;

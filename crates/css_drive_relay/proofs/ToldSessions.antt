@@ -165,7 +165,8 @@ module _ {states : Option SessionStates} {last : State} {sent : List (List ℕ)}
 
   -- it is opened
   opens : owed ≡ [] → ToCome → {Later : Type 0} → (Later → ⊥)
-      → Tells (Some (record { opening = last; later = [] })) last sent gone Later (suc kept) (full_text state ∷ []) state
+      → Tells (Some (record { opening = last; later = [] })) last sent gone Later (suc kept) (full_text state ∷ [])
+      state
   opens none new never =
       let f = t.fresh new in
       let closed = f.0 in
@@ -472,7 +473,8 @@ module _ (run : RelayRun) (peer : ℕ) (older : History) (t : Good run peer olde
   after (Heard other bytes) c n = after_heard c.0 other bytes p.place c.0
   after (Closed other) c n = after_closed c.0 other p.place c.0
   after (Wrote other text) c n =
-      same (wrote_one (eqb other peer) _ text (due other text c)) refl (owes_told peer p.place p.facts p.facts text c.1) refl
+      same (wrote_one (eqb other peer) _ text (due other text c)) refl
+      (owes_told peer p.place p.facts p.facts text c.1) refl
   after (Gone other) c n = after_gone other c.0 c.1
   after (HungUp other) c n = stays c.0 (next (HungUp other)) refl refl (waits_hung_up p.facts p.place)
   after Slept c n = stays c.0 (next Slept) refl refl c.0

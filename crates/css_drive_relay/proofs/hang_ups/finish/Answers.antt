@@ -21,7 +21,8 @@ loop-peer-preserved g c =
     record {
       goes = λ start relay h s enough.
           steps.hung (c.loop-peer.invariant.goes start relay h s enough) e c.in_default-hang_up.ensures.told;
-      dials = omega (arith, c.loop-peer.invariant.dials, ap (λ x. x.dial_faults) c.in_default-hang_up.ensures.told.same);
+      dials =
+          omega (arith, c.loop-peer.invariant.dials, ap (λ x. x.dial_faults) c.in_default-hang_up.ensures.told.same);
     }
 
 pub returns-clause-ends : goal.returns-clause-ends
