@@ -14,9 +14,9 @@ use Rattle.css_drive.specs.Proper.{Due, Listen, Now, Dial, Accept, SendDatagram,
 use Rattle.css_drive.specs.Proper.{HangUp, Ends, MayAdd, Empty, More}
 use Rattle.css_model.specs.declared.Kind.{Kind}
 use Rattle.css_model.specs.declared.Why.{Why}
-use Rattle.css_model.specs.History.{Entry, History, Address, Each, Slept, Clock, Dialling, Dialled}
-use Rattle.css_model.specs.History.{NotDialled, Accepted, NoneCame, Sent, Took, TookNone, Quiet, Heard, Closed, Wrote}
-use Rattle.css_model.specs.History.{Gone, HungUp, request_in}
+use Rattle.css_model.specs.History.{Entry, History, Address, Each, Slept, Clock, Dialling, Dialled, NotDialled}
+use Rattle.css_model.specs.History.{Accepted, NoneCame, Sent, Took, TookNone, Quiet, Heard, Closed, Wrote, Gone, HungUp}
+use Rattle.css_model.specs.History.{request_in}
 use Rattle.css_model.specs.Wire.{encoded, request_at}
 use Rattle.css_outside.specs.Limits.{most_turns}
 use Rattle.css_outside.specs.Outsides.{opening_entries, datagram_entries, heard_entries, wrote_entries, clock_entries}
@@ -302,6 +302,13 @@ module _ (P : Place → Type 0) where
       by (Ok bytes) = answers peer bytes
       by (Err bad) = served
   on_answered run reading older place is served answers = absurd is
+
+  pub on_hung_up : (place : Place) (f : Facts) → P (next_asked f.television f.peers)
+      → ((left : List ℕ) → P (Asked left)) → ((left : List ℕ) → P (Over left)) → P (places.hung_up place f)
+  on_hung_up (Rejecting peer) f next asked over = next
+  on_hung_up (Dropping peer left) f next asked over = asked left
+  on_hung_up (Over left) f next asked over = over (places.without_first left)
+  on_hung_up place f next asked over = over (places.without_first (all_open f))
 
 pub rest_next : (o : Option ℕ) (peers : List ℕ) → IsRest (next_asked o peers)
 rest_next None peers = tt

@@ -11,10 +11,10 @@ use Rattle.css_drive.specs.TvPeers.{has}
 use Rattle.css_drive.specs.TvTold.{lost, sent_to, is_gone}
 use Rattle.css_drive.proofs.TvTold.{none_there}
 use Rattle.css_drive_relay.specs.Places.{Place, Facts, Progress, telling, telling_if, without, opened_if, published}
-use Rattle.css_drive_relay.specs.Places.{Asking, Greeting, Rejecting, Welcomed, Dropping, Over, Telling, Asked}
-use Rattle.css_drive_relay.specs.Places.{progress_of, is_kept, next_asked}
+use Rattle.css_drive_relay.specs.Places.{Asking, Greeting, Welcomed, Dropping, Telling, Asked, progress_of, is_kept}
+use Rattle.css_drive_relay.specs.Places.{next_asked}
 use Rattle.css_drive_relay.proofs.Follows.{waiting, text_at, IsToTell, Follows, Followed, followed, Fits, fits}
-use Rattle.css_drive_relay.proofs.Follows.{on_begun, on_received, on_answered}
+use Rattle.css_drive_relay.proofs.Follows.{on_begun, on_hung_up, on_received, on_answered}
 use Rattle.css_drive_relay.specs.Told.{SessionStates, with_state, while_open, texts_told, relayed, published_at}
 use Rattle.css_drive_relay.specs.Told.{unless_refused, last_published, states_of, SessionsAreTold}
 use Rattle.css_companion.specs.declared.fault.CompanionFault.{CompanionFault}
@@ -321,12 +321,6 @@ waits_passed : (f : Facts) (place : Place) → waiting place ≡ [] → waiting 
 waits_passed f (Welcomed peer) e = e
 waits_passed f place e = e
 
-waits_hung_up : (f : Facts) (place : Place) → waiting (places.hung_up place f) ≡ []
-waits_hung_up f (Rejecting peer) = waits_welcomed f.television f.peers
-waits_hung_up f (Dropping peer left) = refl
-waits_hung_up f (Over left) = refl
-waits_hung_up f _ = refl
-
 -- ---- places after a text
 waits_told : (place : Place) (f : Facts) → waiting (places.told place f) ≡ places.without_first (waiting place)
 waits_told (Greeting peer) f = waits_welcomed f.television f.peers
@@ -476,7 +470,9 @@ module _ (run : RelayRun) (peer : ℕ) (older : History) (t : Good run peer olde
       same (wrote_one (eqb other peer) _ text (due other text c)) refl
       (owes_told peer p.place p.facts p.facts text c.1) refl
   after (Gone other) c n = after_gone other c.0 c.1
-  after (HungUp other) c n = stays c.0 (next (HungUp other)) refl refl (waits_hung_up p.facts p.place)
+  after (HungUp other) c n =
+      stays c.0 (next (HungUp other)) refl refl (on_hung_up (λ place. waiting place ≡ []) p.place p.facts
+      (waits_welcomed p.facts.television p.facts.peers) (λ left. refl) (λ left. refl))
   after Slept c n = stays c.0 (next Slept) refl refl c.0
   after entry c n = stays c.0 (next entry) refl refl refl
 
