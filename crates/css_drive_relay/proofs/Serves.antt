@@ -1,6 +1,6 @@
 -- What a relay's requests, landings, answers and sessions make of its run.
 use Rattle.std.proofs.Common.{◌≡◌, ℕ, ap, sym, ◌∙◌, subst, refl, Bool, true, false, cond, List, ◌∷◌, ◌++◌, Option, Some}
-use Rattle.std.proofs.Common.{None, Result, Ok, Err, ◌+◌, ◌<◌, arith, inl, inr, []}
+use Rattle.std.proofs.Common.{None, Result, Ok, Err, ◌+◌, ◌<◌, arith, inl, inr, [], ap₂}
 use Rattle.std.specs.Prelude.{is_some, ◌&&◌, IfSome, length, All}
 use Rattle.std.proofs.lemmas.List.Elements.{All-nil, All-head, All-cons, All-append, All-weaker}
 use Rattle.css_model.specs.History.{History, request_in, Heard, Accepted, NoneCame}
@@ -43,13 +43,10 @@ use Rattle.css_outside.specs.declared.calls.Heard.TheVariants as session
 
 -- ---- what is due
 ask_due : (o : Option ℕ) (b : Bool) (x y : Due) (peer : ℕ) → o ≡ Some peer → b ≡ true → cond (is_some o && b) x y ≡ x
-ask_due None b x y peer e f = absurd (cc)
-ask_due (Some q) true x y peer e f = refl
-ask_due (Some q) false x y peer e f = absurd (cc)
+ask_due o b x y peer e f = ap₂ (λ (p : Option ℕ) (c : Bool). cond (is_some p && c) x y) e f
 
 pub ask_undialled : (o : Option ℕ) (b : Bool) (x y : Due) → o ≡ None → cond (is_some o && b) x y ≡ y
-ask_undialled None b x y e = refl
-ask_undialled (Some q) b x y e = absurd (cc)
+ask_undialled o b x y e = ap (λ (p : Option ℕ). cond (is_some p && b) x y) e
 
 -- ---- the clock
 module _ {run : RelayRun} {start now mid : Shown} {live later : Live} {history : History} {was is : Relay}

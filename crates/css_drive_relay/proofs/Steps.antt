@@ -20,7 +20,7 @@ use Rattle.css_drive_relay.specs.Places.{Facts, Progress, next_asked, telling, t
 use Rattle.css_drive_relay.specs.Places.{after, progress_of, Begun, Called, after_dial, after_clock, Asked, Over}
 use Rattle.css_drive_relay.specs.Places.{all_open, without_first, hung_up, beginning, with_turn}
 use Rattle.css_drive_relay.specs.Standing.{AreInOrder, KnowsPeers, named, Knows, Runs, Stops, HasRead, facts_in, stood}
-use Rattle.css_drive_relay.specs.Standing.{Stands, IsAt, Comes, HangsUp, Keeps, listening, Came}
+use Rattle.css_drive_relay.specs.Standing.{IsCounted, Stands, IsAt, Comes, HangsUp, Keeps, listening, Came}
 use Rattle.css_model.specs.declared.Why.{Why}
 use Rattle.css_model.specs.Explains.{IsLawful}
 use Rattle.css_outside.specs.Outsides.{Counts, with_entries, clock_entries, sleep_entries}
@@ -511,35 +511,25 @@ keeps_on {old} {mid} {new} a b = record {
 }
 
 -- ---- what is counted
--- a run that is cut counts no failed dial
-pub cut_counts : (before now : ℕ) → before ≤ now → (ended : Driven) → IsCut ended → CountsDialFaults before now ended
-cut_counts before now le (driven.Unreachable n) c = absurd c
-cut_counts before now le _ c = le
+-- a run that is cut
+pub cut_so : (before now : ℕ) → before ≤ now → (ended : Driven) → IsCut ended → IsCounted before now ended
+cut_so before now le (driven.Unreachable n) c = absurd c
+cut_so before now le driven.WriteFault c = absurd c
+cut_so before now le _ c = (le, λ e. cc)
 
--- where a dial succeeded, or one failed
-pub ending_counts : (f : Facts) (before now : ℕ) → before ≤ now
+-- or one that made its turns, where a dial succeeded or one failed
+pub ending_so : (f : Facts) (before now : ℕ) → before ≤ now
     → (f.cii ≡ None → HasRisen before now) → (ended : Driven) → (ended ≡ final f) ⊎ IsCut ended
-    → CountsDialFaults before now ended
-ending_counts f before now le tried ended (inl e) =
-    let P : Driven → Type 0 = λ x. CountsDialFaults before now x in
-    subst P (sym e) (by f.cii (is_some f.wc) tried)
+    → IsCounted before now ended
+ending_so f before now le tried ended (inl e) =
+    subst (λ (d : Driven). IsCounted before now d) (sym e) (by f.cii (is_some f.wc) tried)
   where
     by : (o : Option ℕ) (b : Bool) → (o ≡ None → HasRisen before now)
-        → CountsDialFaults before now (cond (is_some o || b) driven.Done (driven.Unreachable f.turns))
-    by None true tried = le
-    by None false tried = tried refl
-    by (Some p) b tried = le
-ending_counts f before now le tried ended (inr c) = cut_counts before now le ended c
-
--- nothing is written
-pub cut_writes : (ended : Driven) → IsCut ended → ended ≡ driven.WriteFault → ⊥
-cut_writes ended c e = let P : Driven → Type 0 = λ x. IsCut x in absurd (subst P e c)
-
-pub ending_writes : (f : Facts) (ended : Driven) → (ended ≡ final f) ⊎ IsCut ended → ended ≡ driven.WriteFault → ⊥
-ending_writes f ended (inl e) is =
-    cond_both (is_some f.cii || is_some f.wc) driven.Done (driven.Unreachable f.turns)
-    (λ d. d ≡ driven.WriteFault → ⊥) (λ _ e. cc) (λ _ e. cc) (sym e ∙ is)
-ending_writes f ended (inr c) is = cut_writes ended c is
+        → IsCounted before now (cond (is_some o || b) driven.Done (driven.Unreachable f.turns))
+    by None true tried = (le, λ e. cc)
+    by None false tried = (tried refl, λ e. cc)
+    by (Some p) b tried = (le, λ e. cc)
+ending_so f before now le tried ended (inr c) = cut_so before now le ended c
 
 pub dials_from : (old new : Counts) (now : ℕ) (ended : Driven) → new ≡ record old { faults = new.faults }
     → CountsDialFaults new.dial_faults now ended → CountsDialFaults old.dial_faults now ended
@@ -603,24 +593,18 @@ was_second limit range (Some first) made reading some last = some first refl
 was_second limit range None made reading none last =
     absurd (never_late limit (Some reading) (Some reading) range refl last)
 
--- where the turn is the last by its time, and where it isn't
-pub begun_at : {run : RelayRun} {start now : Shown} {relay : Relay} {f : Facts} {late last : Bool}
-    → IsAt run start now relay (record { facts = f; place = places.begun run f })
-    → late ≡ is_late run.limit f.first f.turn → late ≡ last
-    → IsAt run start now relay (record { facts = f; place = cond last (Asked []) Begun })
-begun_at {f = f} x is e =
-    is_at_as x (ap {B = Progress} (λ b. record { facts = f; place = cond b (Asked []) Begun }) (sym is ∙ e))
-
+-- the turn's reading was told, and it is the last by its time or isn't
 pub begun : {run : RelayRun} {start now next : Shown} {was is : Relay} {live later : Live} {history : History}
-    {f : Facts} {clocked : Clocked} → Stands run start now was (stood live (Asked [])) history
+    {f : Facts} {late last : Bool} {clocked : Clocked} → Stands run start now was (stood live (Asked [])) history
     → goes_on run.limit live.first live.turn live.made ≡ true
     → HasRead now next live later was is why.Turn clocked
-    → f ≡ with_turn clocked.reading (facts_in later)
-    → IsAt run start next is (record { facts = f; place = places.begun run f })
-begun {run} {live = live} {later} {history} {clocked = clocked} s on r e =
-    here_as (places.begun run) e
+    → f ≡ with_turn clocked.reading (facts_in later) → late ≡ is_late run.limit f.first f.turn → late ≡ last
+    → IsAt run start next is (record { facts = f; place = cond last (Asked []) Begun })
+begun {run} {live = live} {later} {history} {f} {clocked = clocked} s on r e late is =
+    is_at_as (here_as (places.begun run) e
     (stands_read s
     (ap (λ b. cond b (Now why.Turn) (from_hang_ups (final (facts_in live)) (all_open (facts_in live)))) on) tt r
     _ refl (unnamed history (places.begun run (with_turn clocked.reading (facts_in later)))
     (cond_both (is_late run.limit (Some (unwrap_or later.first clocked.reading)) (Some clocked.reading)) (Asked [])
-    Begun (λ at. named at ≡ []) (λ _. refl) (λ _. refl))))
+    Begun (λ at. named at ≡ []) (λ _. refl) (λ _. refl)))))
+    (ap {B = Progress} (λ b. record { facts = f; place = cond b (Asked []) Begun }) (sym late ∙ is))

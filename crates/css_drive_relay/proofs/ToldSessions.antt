@@ -95,10 +95,6 @@ owed peer p = texts (count peer (waiting p.place)) (text_at p.place p.facts)
 none_owed : (peer : ℕ) (p : Progress) → waiting p.place ≡ [] → owed peer p ≡ []
 none_owed peer p e = ap (λ xs. texts (count peer xs) (text_at p.place p.facts)) e
 
-waiting_telling : (text left : List ℕ) (f : Facts) → waiting (telling text left f) ≡ left
-waiting_telling text [] f = refl
-waiting_telling text (p ∷ ps) f = refl
-
 owed_telling : (peer : ℕ) (text left : List ℕ) (f : Facts)
     → owed peer (record { facts = f; place = telling text left f }) ≡ texts (count peer left) text
 owed_telling peer text [] f = refl
@@ -322,11 +318,6 @@ waits_passed f (Welcomed peer) e = e
 waits_passed f place e = e
 
 -- ---- places after a text
-waits_told : (place : Place) (f : Facts) → waiting (places.told place f) ≡ places.without_first (waiting place)
-waits_told (Greeting peer) f = waits_welcomed f.television f.peers
-waits_told (Telling text left) f = waiting_telling text (places.without_first left) f
-waits_told place f = refl
-
 owes_told : (peer : ℕ) (place : Place) (f g : Facts) (text : List ℕ) → text_at place f ≡ text
     → texts (count peer (places.without_first (waiting place))) text
     ≡ owed peer (record { facts = g; place = places.told place g })

@@ -1,15 +1,14 @@
 //! A relay's run over any devices.
-ghost use Rattle.std.specs.Prelude.{◌≡◌, ◌≢◌, ◌≤◌, ◌<◌, ◌+◌, [], true, OnOk, IfOk, IfErr, None};
+ghost use Rattle.std.specs.Prelude.{◌≡◌, ◌≤◌, ◌<◌, ◌+◌, [], true, OnOk, IfOk, IfErr, None};
 ghost use Rattle.css_model.specs.History.{History};
 ghost use Rattle.css_outside.specs.Faults.{HasRisen};
 ghost use Rattle.css_outside.specs.Outsides.{Counts};
 ghost use Rattle.css_drive.specs.CompanionStanding.{Shown, shown, IsCut};
 ghost use Rattle.css_drive.specs.CompanionTurns as turns;
 ghost use Rattle.css_drive_relay.specs.Places.{Asked, Begun};
-ghost use Rattle.css_drive.specs.Ends.{CountsDialFaults};
 ghost use Rattle.css_drive_relay.specs.Ran.{IsWritable, RelayRan, CountsRelayRun};
 ghost use Rattle.css_drive_relay.specs.Standing.{stood, listening, Stands, Stops, Knows, Arrives};
-ghost use Rattle.css_drive_relay.specs.Standing.{Keeps, HasTried};
+ghost use Rattle.css_drive_relay.specs.Standing.{Keeps, HasTried, IsCounted};
 
 use crate::calls::read;
 use crate::config::RelayRun;
@@ -115,8 +114,7 @@ fn make_turns<O: Outside>(
     ensures ends { (start : Shown) (history : History)
         → Stands run.now start (shown (O.told outside.old) (O.counts outside.old)) relay.old listening history
         → Stops run.now start (shown (O.told outside.new) (O.counts outside.new)) result }
-    ensures dials { CountsDialFaults (O.counts outside.old).dial_faults (O.counts outside.new).dial_faults result }
-    ensures no_writes { result ≢ Driven.WriteFault }
+    ensures counted { IsCounted (O.counts outside.old).dial_faults (O.counts outside.new).dial_faults result }
 {
     let mut live = Live {
         made: 0,

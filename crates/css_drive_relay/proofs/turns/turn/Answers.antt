@@ -13,15 +13,15 @@ pub returns-then-is_late-clause-goes : goal.returns-then-is_late-clause-goes
 returns-then-is_late-clause-goes g c start h s on =
     let clocked : Clocked = c.in_ok-reading.field-0 in
     let now : Facts = with_turn clocked.reading (facts_in c.read.new.live) in
-    steps.begun_at (steps.begun {clocked = clocked} s on c.in_ok-reading.ensures.told
-    (ap {A = ℕ} (λ n. record now { first = Some n }) c.unwrap_or.ensures)) c.is_late.ensures c.if-is_late.true
+    steps.begun {clocked = clocked} s on c.in_ok-reading.ensures.told
+    (ap {A = ℕ} (λ n. record now { first = Some n }) c.unwrap_or.ensures) c.is_late.ensures c.if-is_late.true
 
 pub returns-clause-goes : goal.returns-clause-goes
 returns-clause-goes g c start h s on =
     let clocked : Clocked = c.in_ok-reading.field-0 in
     let now : Facts = with_turn clocked.reading (facts_in c.read.new.live) in
-    steps.on_at (steps.begun_at (steps.begun {clocked = clocked} s on c.in_ok-reading.ensures.told
-    (ap {A = ℕ} (λ n. record now { first = Some n }) c.unwrap_or.ensures)) c.is_late.ensures c.if-is_late.false)
+    steps.on_at (steps.begun {clocked = clocked} s on c.in_ok-reading.ensures.told
+    (ap {A = ℕ} (λ n. record now { first = Some n }) c.unwrap_or.ensures) c.is_late.ensures c.if-is_late.false)
     (c.calls.ensures.goes start)
 
 -- No dial is made in the last turn by time. The first reading stays the first, so that turn isn't the first one.
