@@ -2,7 +2,7 @@
 -- ends.
 use Rattle.std.proofs.Common.{◌≡◌, ℕ, ◌≤◌, ◌<◌, arith, ap, ◌∙◌, refl, Bool, true, false, cond, List, [], ◌∷◌, ◌++◌}
 use Rattle.std.proofs.Common.{Option, Some, None, add-one, ◌+◌, sym, subst, ◌||◌, inl, inr, Result, Ok, ap₂, Err}
-use Rattle.std.specs.Prelude.{All, ◌==◌, ◌+◌, not, nat_lt, is_some, ◌||◌, ◌⊎◌, ◌&&◌, unwrap_or, IsErrAnd, MatchResult}
+use Rattle.std.specs.Prelude.{All, ◌==◌, ◌+◌, not, nat_lt, is_some, ◌||◌, ◌⊎◌, unwrap_or, IsErrAnd, MatchResult, ◌&&◌}
 use Rattle.std.specs.List.{insert}
 use Rattle.std.specs.Option.{option_or, ForSome, option_map}
 use Rattle.std.proofs.lemmas.Bool.{ne_eqb, eq-eqb, cond_both}
@@ -46,7 +46,6 @@ use Rattle.css_drive.proofs.CompanionRuns.{no_entries}
 use Rattle.css_outside.specs.Limits.{IsLimit, most_turns}
 use Rattle.css_outside.specs.declared.limit.Limit.{Limit}
 use Rattle.css_outside.specs.declared.limit.Limit.TheVariants.{Turns, Seconds}
-use Rattle.css_drive_relay.specs.Ran.{RelayRan}
 use Rattle.css_model.specs.declared.Kind.TheVariants as kind
 use Rattle.css_companion.proofs.Telling as telling
 use Rattle.css_drive.specs.declared.driven.Driven.TheVariants as driven
@@ -366,11 +365,6 @@ pub stops_by_memory : {run : RelayRun} {start now : Shown} {p : Progress} {histo
 stops_by_memory {run} {start} {now} s l ended e =
     subst (λ (x : Driven). Stops run start now x) (sym e) (stops_here s l driven.Memory (λ x. x) tt)
 
--- the end is in another form
-pub stops_as : {run : RelayRun} {start now : Shown} {ended : Driven} → Stops run start now ended → (other : Driven)
-    → other ≡ ended → Stops run start now other
-stops_as {run} {start} {now} s other e = subst (λ (x : Driven). Stops run start now x) (sym e) s
-
 -- ---- what is due where a dial is skipped
 pub first_skipped : (o : Option ℕ) (to : Address) (rest : Due) → is_some o ≡ true → dial_first o to rest ≡ rest
 first_skipped None to rest e = absurd (cc)
@@ -484,16 +478,16 @@ module _ {run : RelayRun} {start now : Shown} {live : Live} {relay : Relay} wher
       }
 
   -- all of them were
-  pub all_hung : {left : List ℕ} → HangsUp run start now relay live left → left ≡ []
-      → Stops run start now (final (facts_in live))
-  all_hung x none =
-      stops_here x.stands.runs (lawful x.stands.knows) (final (facts_in live))
+  pub all_hung : {left : List ℕ} {ended : Driven} → ended ≡ final (facts_in live)
+      → HangsUp run start now relay live left → left ≡ [] → Stops run start now ended
+  all_hung e x none =
+      subst (λ (d : Driven). Stops run start now d) (sym e) (stops_here x.stands.runs (lawful x.stands.knows) (final (facts_in live))
       (cond_both (is_some live.cii || is_some live.wc) driven.Done (driven.Unreachable live.made)
       (λ d. IsNetFault d → ⊥) (λ _ e. e) (λ _ e. e))
       (cond_both (is_some live.cii || is_some live.wc) driven.Done (driven.Unreachable live.made)
       (λ d. due_at run (facts_in live) x.history x.place ≡ Ends d
       → MayEnd (due_at run (facts_in live) x.history x.place) d) (λ _ e. e) (λ _ e. e)
-      (x.next ∙ ap (from_hang_ups (final (facts_in live))) none))
+      (x.next ∙ ap (from_hang_ups (final (facts_in live))) none)))
 
 -- ---- loops
 -- the same, seen as another progress
@@ -554,17 +548,6 @@ pub listens : (run : RelayRun) (now next : Shown) (relay : Relay) → Knows run 
     → Stands run now next relay listening (Listening run.host run.port ∷ [])
 listens run now next relay k a =
     stands_on (record { runs = at_first run now; knows = k }) (Listening run.host run.port) refl tt (λ x. x) a
-
--- nothing was done, for want of memory
-pub ran_none : (run : RelayRun) (told : Option History) → RelayRan run told told driven.Memory
-ran_none run told = record {
-  history = [];
-  grew = no_entries told;
-  proper = Empty;
-  lawful = record { rises = tt; asks = tt };
-  numbered = tt;
-  ends = tt;
-}
 
 -- the variables as they begin
 pub first_facts : (state : State) (peers : List ℕ) → state ≡ empty → peers ≡ []

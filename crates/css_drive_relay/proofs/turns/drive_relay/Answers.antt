@@ -2,10 +2,14 @@ use Rattle.std.proofs.Common.{None, refl, ap, arith}
 use Rattle.css_drive.proofs.CompanionCalls.{plain_adds}
 use Rattle.css_drive_relay.proofs.Steps as steps
 use Rattle.css_drive.specs.CompanionStanding.{shown}
+use Rattle.css_drive.specs.declared.driven.Driven.TheVariants as driven
 use Rattle.css_drive_relay.proofs.turns.drive_relay.Goals as goal
 
 pub returns-in_default-clause-ran : goal.returns-in_default-clause-ran
-returns-in_default-clause-ran g c = steps.ran_none c.args.config _
+returns-in_default-clause-ran g c =
+    (steps.stops_here (steps.at_first c.args.config
+    (shown (g.O.Outside.told c.args.outside.now) (g.O.Outside.counts c.args.outside.now)))
+    (record { rises = tt; asks = tt }) driven.Memory (λ x. x) tt).ran
 
 pub returns-clause-ran : goal.returns-clause-ran
 returns-clause-ran g c =
