@@ -14,9 +14,9 @@ use Rattle.css_drive.specs.Proper.{Due, Listen, Now, Dial, Accept, SendDatagram,
 use Rattle.css_drive.specs.Proper.{HangUp, Ends, MayAdd, Empty, More}
 use Rattle.css_model.specs.declared.Kind.{Kind}
 use Rattle.css_model.specs.declared.Why.{Why}
-use Rattle.css_model.specs.History.{Entry, History, Address, Each, Listening, Slept, Clock, Dialling, Dialled}
-use Rattle.css_model.specs.History.{NotDialled, Accepted, NoneCame, Sent, Took, TookNone, Quiet, Heard, Closed, Wrote}
-use Rattle.css_model.specs.History.{Gone, HungUp, request_in}
+use Rattle.css_model.specs.History.{Entry, History, Address, Each, Slept, Clock, Dialling, Dialled, NotDialled}
+use Rattle.css_model.specs.History.{Accepted, NoneCame, Sent, Took, TookNone, Quiet, Heard, Closed, Wrote, Gone, HungUp}
+use Rattle.css_model.specs.History.{request_in}
 use Rattle.css_model.specs.Wire.{encoded, request_at}
 use Rattle.css_outside.specs.Limits.{most_turns}
 use Rattle.css_outside.specs.Outsides.{opening_entries, datagram_entries, heard_entries, wrote_entries, clock_entries}
@@ -303,6 +303,13 @@ module _ (P : Place → Type 0) where
       by (Err bad) = served
   on_answered run reading older place is served answers = absurd is
 
+  pub on_hung_up : (place : Place) (f : Facts) → P (next_asked f.television f.peers)
+      → ((left : List ℕ) → P (Asked left)) → ((left : List ℕ) → P (Over left)) → P (places.hung_up place f)
+  on_hung_up (Rejecting peer) f next asked over = next
+  on_hung_up (Dropping peer left) f next asked over = asked left
+  on_hung_up (Over left) f next asked over = over (places.without_first left)
+  on_hung_up place f next asked over = over (places.without_first (all_open f))
+
 pub rest_next : (o : Option ℕ) (peers : List ℕ) → IsRest (next_asked o peers)
 rest_next None peers = tt
 rest_next (Some p) peers = tt
@@ -399,12 +406,10 @@ moves run older (Clock w reading) is p = absurd is
 moves run older (Dialled k peer) is p = absurd is
 moves run older (Took peer bytes) is p = absurd is
 moves run older (HungUp peer) is p = absurd is
-moves run older (Listening host port) is p = (refl, refl, refl, refl, inr tt)
-moves run older (NotDialled k) is p = (refl, refl, refl, refl, inr tt)
-moves run older TookNone is p = (refl, refl, refl, refl, inr tt)
 moves run older Slept is p = (refl, refl, refl, refl, inl refl)
 moves run older (Dialling k to) is p = (refl, refl, refl, refl, inl refl)
 moves run older NoneCame is p = (refl, refl, refl, refl, inr (rest_next p.facts.television p.facts.peers))
+moves run older _ is p = (refl, refl, refl, refl, inr tt)
 
 -- ---- places at which the turns aren't over
 over_rest : (place : Place) → IsRest place → IsOver place → ⊥
@@ -470,7 +475,8 @@ module _ (run : RelayRun) (older : History) (t : Good run older) where
   after (Clock why.Turn reading) c = record {
     turns = ap (λ (x : Turns). (x.0 + 1, Some (unwrap_or x.1 reading), Some reading)) t.turns;
     few = let more = c.2.1 in omega (arith, more);
-    over = λ e. absurd (on_begun (λ place. IsOver place → ⊥) run (places.with_turn reading p.facts) (λ e. e) (λ e. e) e);
+    over =
+        λ e. absurd (on_begun (λ place. IsOver place → ⊥) run (places.with_turn reading p.facts) (λ e. e) (λ e. e) e);
     dialled = t.dialled;
   }
   after (Clock why.Ask reading) c =

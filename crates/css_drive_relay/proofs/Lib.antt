@@ -1,5 +1,4 @@
 pub mod Follows
 pub mod Steps
-pub mod Serves
 pub mod ToldSessions
 pub mod SecondHop

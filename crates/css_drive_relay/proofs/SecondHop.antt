@@ -32,12 +32,11 @@ use Rattle.css_relay.specs.declared.fault.RelayFault.{RelayFault}
 use Rattle.std.specs.Result.{result_ok}
 use Rattle.css_relay.proofs.Exponents.{exponents_are_least}
 use Rattle.css_relay.proofs.Readings.{same_ok}
-use Rattle.css_drive_relay.specs.Places.{Place, Facts, Received, Answers, Taken, Dropping, Over, Rejecting, progress_of}
-use Rattle.css_drive_relay.specs.Places.{hung_up, received, received_at, answering, answered_at, with_turn, Asking}
-use Rattle.css_drive_relay.specs.Places.{Progress}
+use Rattle.css_drive_relay.specs.Places.{Place, Facts, Received, Answers, Taken, progress_of, received, received_at}
+use Rattle.css_drive_relay.specs.Places.{answering, answered_at, with_turn, Asking, Progress}
 use Rattle.css_drive_relay.specs.Laws.{IsAnswerTo, AnswersAreTrueTo}
-use Rattle.css_drive_relay.proofs.Follows.{IsRest, on_begun, rest_next, moves, Followed, followed, FitsDial, rest_moved}
-use Rattle.css_drive_relay.proofs.Follows.{rest_sent, IsTimed, IsTaken, IsReceived, IsToSend, IsMove}
+use Rattle.css_drive_relay.proofs.Follows.{IsRest, on_begun, on_hung_up, rest_next, moves, Followed, followed, FitsDial}
+use Rattle.css_drive_relay.proofs.Follows.{rest_moved, rest_sent, IsTimed, IsTaken, IsReceived, IsToSend, IsMove}
 use Rattle.css_drive_relay.specs.declared.config.RelayRun.{RelayRun}
 use Rattle.css_model.specs.declared.Kind.{Kind}
 use Rattle.css_drive_relay.specs.SecondHop.{given_at, given_by, IsRequest, IsResponse, IsSentAt, SentIsKnown, IsGiven}
@@ -311,12 +310,6 @@ after_move own older entry before place (inl same) t =
     subst (λ (x : Place). Says own (entry ∷ older) x) (sym same) (says_later own older entry before t)
 after_move own older entry before place (inr rest) t = tells_rest own (entry ∷ older) place rest
 
-says_hung_up : (own : Local) (history : History) (place : Place) (f : Facts) → Says own history (hung_up place f)
-says_hung_up own history (Rejecting peer) f = tells_rest own history _ (rest_next f.television f.peers)
-says_hung_up own history (Dropping peer left) f = tt
-says_hung_up own history (Over left) f = tt
-says_hung_up own history _ f = tt
-
 -- ---- the clock
 receiving : (own : Local) (history : History) (reading peer : ℕ) (bytes : List ℕ) (result : Result Ticket RelayFault)
     → received_after own history reading bytes ≡ result
@@ -333,26 +326,29 @@ says_taken run history reading (Taken peer bytes) t =
     (received_after run.companion.local history reading bytes) refl
 says_taken run history reading place t = says_later run.companion.local history (Clock why.Take reading) place t
 
+-- so what is answered then is an answer
+abbrev answer_from : {own : Local} {history : History} {reading : ℕ} {ticket : Ticket} {message : Message}
+    → HasTaken own history ticket → answered_after own history reading ticket ≡ Ok message
+    → IsAnswerOf own (Clock why.Give reading ∷ history) message
+answer_from {history = history} {reading} {ticket} t e = record {
+  request = t.request;
+  ticket = ticket;
+  take = t.take;
+  give = reading;
+  before_take = t.before_take;
+  before_give = history;
+  taken = t.taken;
+  given = inl (refl, refl);
+  received = t.received;
+  answered = e;
+}
+
 giving : (own : Local) (history : History) (reading peer : ℕ) (ticket : Ticket) (result : Result Message RelayFault)
     → HasTaken own history ticket → answered_after own history reading ticket ≡ result
     → Says own (Clock why.Give reading ∷ history) (answering peer (datagram_of result))
 giving own history reading peer ticket (Err fault) t e = tt
-giving own history reading peer ticket (Ok message) t e = record {
-  message = message;
-  wire = refl;
-  answer = record {
-    request = t.request;
-    ticket = ticket;
-    take = t.take;
-    give = reading;
-    before_take = t.before_take;
-    before_give = history;
-    taken = t.taken;
-    given = inl (refl, refl);
-    received = t.received;
-    answered = e;
-  };
-}
+giving own history reading peer ticket (Ok message) t e =
+    record { message = message; wire = refl; answer = answer_from t e }
 
 says_given : (run : RelayRun) (history : History) (reading : ℕ) (place : Place)
     → Says run.companion.local history place
@@ -376,7 +372,9 @@ says run (Clock why.Give reading ∷ older) =
 says run (Dialled k peer ∷ older) = tt
 says run (Took peer bytes ∷ older) = tt
 says run (HungUp peer ∷ older) =
-    says_hung_up run.companion.local _ (progress_of run older).place (progress_of run older).facts
+    let f : Facts = (progress_of run older).facts in
+    on_hung_up (Says run.companion.local (HungUp peer ∷ older)) (progress_of run older).place f
+    (tells_rest run.companion.local _ _ (rest_next f.television f.peers)) (λ left. tt) (λ left. tt)
 says run (entry ∷ older) =
     after_move run.companion.local older entry (progress_of run older).place (progress_of run (entry ∷ older)).place
     (moves run older entry tt (progress_of run older)).4 (says run older)
@@ -460,12 +458,6 @@ module _ (run : RelayRun) (older : History) where
           record { reading = reading; before = older; message = message; just = refl; given = e; wire = refl }
   after_give reading place at is = absurd is
 
-  after_hang_up : (peer : ℕ) (place : Place) → Shows run (HungUp peer ∷ older) (places.hung_up place p.facts)
-  after_hang_up peer (Rejecting other) = shows_rest run _ _ (rest_next p.facts.television p.facts.peers)
-  after_hang_up peer (Dropping other left) = tt
-  after_hang_up peer (Over left) = tt
-  after_hang_up peer place = tt
-
   moved : (entry : Entry) → IsMove entry → IsRest p.place
       → Shows run (entry ∷ older) (places.after run entry older p).place
   moved entry is rest =
@@ -495,7 +487,10 @@ shape_of run (Heard peer bytes ∷ older) each = moved run older (Heard peer byt
 shape_of run (Closed peer ∷ older) each = moved run older (Closed peer) tt each.0.1
 shape_of run (Wrote peer bytes ∷ older) each = moved run older (Wrote peer bytes) tt each.0.2
 shape_of run (Gone peer ∷ older) each = moved run older (Gone peer) tt each.0.1.2
-shape_of run (HungUp peer ∷ older) each = after_hang_up run older peer (progress_of run older).place
+shape_of run (HungUp peer ∷ older) each =
+    let f : Facts = (progress_of run older).facts in
+    on_hung_up (Shows run (HungUp peer ∷ older)) (progress_of run older).place f
+    (shows_rest run _ _ (rest_next f.television f.peers)) (λ left. tt) (λ left. tt)
 shape_of run (_ ∷ older) each = tt
 
 -- ---- datagrams that are sent
@@ -543,18 +538,13 @@ gives : (run : RelayRun) (older : History) (reading : ℕ) (message : Message) (
 gives run older reading message (Received peer ticket) shows is =
     let taken = taken_before shows.take shows.before older shows.just in
     record {
-      answer = record {
+      answer = answer_from {ticket = ticket} (record {
         request = shows.request;
-        ticket = ticket;
         take = shows.take;
-        give = reading;
         before_take = shows.before;
-        before_give = older;
         taken = taken.0;
-        given = inl (refl, refl);
         received = shows.received;
-        answered = ok_some (answered_after run.companion.local older reading ticket) is;
-      };
+      }) (ok_some (answered_after run.companion.local older reading ticket) is);
       at_take = taken.1;
       at_give = refl;
     }

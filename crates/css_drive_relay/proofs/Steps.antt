@@ -1,57 +1,69 @@
--- How a relay's run goes on by a call that is due, which sessions it knows then, what its dials make of it, and how it
--- ends.
+-- How a relay's run goes on by a call that is due, which sessions it knows then, what its dials, requests, landings,
+-- answers and sessions make of it, and how it ends.
 use Rattle.std.proofs.Common.{◌≡◌, ℕ, ◌≤◌, ◌<◌, arith, ap, ◌∙◌, refl, Bool, true, false, cond, List, [], ◌∷◌, ◌++◌}
 use Rattle.std.proofs.Common.{Option, Some, None, add-one, ◌+◌, sym, subst, ◌||◌, inl, inr, Result, Ok, ap₂, Err}
-use Rattle.std.specs.Prelude.{All, ◌==◌, ◌+◌, not, nat_lt, is_some, ◌||◌, ◌⊎◌, ◌&&◌, unwrap_or, IsErrAnd, MatchResult}
+use Rattle.std.specs.Prelude.{All, ◌==◌, not, nat_lt, is_some, ◌⊎◌, unwrap_or, IsErrAnd, MatchResult, ◌&&◌, IfSome}
+use Rattle.std.specs.Prelude.{length}
 use Rattle.std.specs.List.{insert}
 use Rattle.std.specs.Option.{option_or, ForSome, option_map}
 use Rattle.std.proofs.lemmas.Bool.{ne_eqb, eq-eqb, cond_both}
 use Rattle.std.proofs.lemmas.Option.{IfSome_then}
 use Rattle.css_model.specs.declared.Message.{Message}
-use Rattle.std.proofs.lemmas.List.Elements.{All-nil, All-filter}
+use Rattle.std.proofs.lemmas.List.Elements.{All-nil, All-filter, All-head, All-cons, All-append, All-weaker}
 use Rattle.std.proofs.lemmas.Bool.Decides.{nat_tests}
 use Rattle.css_model.specs.declared.Kind.{Kind}
 use Rattle.css_model.specs.History.{Dialled, Accepted, History, Entry, Slept, Clock, is_sleep, asking_at, request_by}
 use Rattle.css_model.specs.History.{landed_answer, Address, Dialling, NotDialled, HungUp, Listening, Closed, Gone}
-use Rattle.css_model.specs.History.{Heard, Sent, request_in}
-use Rattle.css_companion.specs.Meanings.{kind_of, cii_text, ts_text, opens_ts, closes_ts, is_cii, is_ts}
+use Rattle.css_model.specs.History.{Heard, Sent, request_in, NoneCame}
+use Rattle.css_companion.specs.Meanings.{kind_of, cii_text, ts_text, opens_ts, closes_ts, is_cii, is_ts, state_of}
 use Rattle.css_drive.specs.TvRan.{AreBelow, AreNumbered}
 use Rattle.css_drive_relay.specs.Places.{Facts, Progress, next_asked, telling, telling_if, with_peer, without, Place}
 use Rattle.css_drive_relay.specs.Places.{after, progress_of, Begun, Called, after_dial, after_clock, Asked, Over}
-use Rattle.css_drive_relay.specs.Places.{all_open, without_first, hung_up, beginning, with_turn}
+use Rattle.css_drive_relay.specs.Places.{all_open, without_first, hung_up, beginning, with_turn, Taken, Received}
+use Rattle.css_drive_relay.specs.Places.{Served, received, answering, Welcomed, welcomed, published, television_told}
+use Rattle.css_drive_relay.specs.Places.{is_kept, opened_if, Asking}
 use Rattle.css_drive_relay.specs.Standing.{AreInOrder, KnowsPeers, named, Knows, Runs, Stops, HasRead, facts_in, stood}
-use Rattle.css_drive_relay.specs.Standing.{Stands, IsAt, Comes, HangsUp, Keeps, listening, Came}
+use Rattle.css_drive_relay.specs.Standing.{IsCounted, Stands, IsAt, Comes, HangsUp, Keeps, listening, Came}
 use Rattle.css_model.specs.declared.Why.{Why}
 use Rattle.css_model.specs.Explains.{IsLawful}
 use Rattle.css_outside.specs.Outsides.{Counts, with_entries, clock_entries, sleep_entries}
 use Rattle.css_outside.specs.declared.calls.Clocked.{Clocked}
-use Rattle.css_relay.specs.Relays.{Relay}
+use Rattle.css_relay.specs.Relays.{Relay, relayed_state}
 use Rattle.css_drive.specs.CompanionStanding.{Shown, Adds, Fails, asked_after, HasDialled, IsCut, dial_entries}
+use Rattle.css_drive.specs.CompanionStanding.{IsRefusal}
 use Rattle.css_drive.specs.Ends.{MayEnd, IsNetFault, CountsNetFault, CountsDialFaults}
-use Rattle.css_drive.specs.Proper.{Due, Now, MayAdd, More, Dial, Ends, Empty}
+use Rattle.css_drive.specs.Proper.{Due, Now, MayAdd, More, Dial, Ends, Empty, TakeDatagram}
 use Rattle.css_drive.specs.declared.driven.Driven.{Driven}
-use Rattle.css_drive.proofs.CompanionSteps.{told_more, counts_same, fault_ends, at_err}
-use Rattle.css_drive_relay.specs.Due.{due, due_at, due_for, final, from_hang_ups}
+use Rattle.css_drive.proofs.CompanionSteps.{none_if, told_more, counts_same, fault_ends, at_err, own_quiet}
+use Rattle.css_drive_relay.specs.Due.{due, due_at, due_for, final, from_hang_ups, from_taken, from_ask}
 use Rattle.css_drive_relay.specs.declared.live.Live.{Live}
 use Rattle.css_drive_relay.specs.declared.config.RelayRun.{RelayRun}
 use Rattle.css_cii.specs.declared.name.CiiName.TheVariants.{WcUrl}
 use Rattle.css_address.specs.declared.fault.AddressFault.{AddressFault}
-use Rattle.css_drive.specs.CompanionDue.{dial_first, dial_to, place}
+use Rattle.css_drive.specs.CompanionDue.{dial_first, dial_to, place, refusal_of, end_by}
 use Rattle.css_cii.specs.States.{empty}
 use Rattle.css_cii.specs.declared.state.State.{State}
 use Rattle.css_outside.specs.Faults.{HasRisen}
-use Rattle.css_drive.specs.CompanionTurns.{goes_on, is_late}
+use Rattle.css_drive.specs.CompanionTurns.{goes_on, is_late, is_asking}
 use Rattle.css_drive.proofs.CompanionEnds.{never_late}
 use Rattle.css_drive.proofs.CompanionRuns.{no_entries}
 use Rattle.css_outside.specs.Limits.{IsLimit, most_turns}
 use Rattle.css_outside.specs.declared.limit.Limit.{Limit}
 use Rattle.css_outside.specs.declared.limit.Limit.TheVariants.{Turns, Seconds}
-use Rattle.css_drive_relay.specs.Ran.{RelayRan}
+use Rattle.css_model.specs.WallClock.{Local}
+use Rattle.css_companion.specs.Standing.{StandsFor, own_of}
+use Rattle.css_relay.specs.Answers.{Ticket, received_after, answered_after, datagram_of}
+use Rattle.css_relay.specs.declared.fault.RelayFault.{RelayFault}
+use Rattle.css_drive.proofs.CompanionCalls.{lawful_plain, refusal_ends, refusal_own}
+use Rattle.css_sessions.specs.Kept.{difference_text}
+use Rattle.css_companion.specs.declared.fault.CompanionFault.{CompanionFault}
+use Rattle.css_drive_relay.specs.Told.{relayed}
 use Rattle.css_model.specs.declared.Kind.TheVariants as kind
 use Rattle.css_companion.proofs.Telling as telling
 use Rattle.css_drive.specs.declared.driven.Driven.TheVariants as driven
 use Rattle.css_model.specs.declared.Why.TheVariants as why
 use Rattle.css_drive_relay.specs.Places as places
+use Rattle.css_outside.specs.declared.calls.Heard.TheVariants as session
 
 -- ---- numbers
 pub in_order_later : (n m : ℕ) (h : History) → AreInOrder n h → n ≤ m → AreInOrder m h
@@ -60,18 +72,15 @@ in_order_later n m (Dialled k peer ∷ older) o le = let lt = o.0 in (omega (ari
 in_order_later n m (Accepted peer k ∷ older) o le = let lt = o.0 in (omega (arith, lt, le), o.1)
 in_order_later n m (_ ∷ older) o le = in_order_later n m older o le
 
-below : (n m : ℕ) (h : History) → AreInOrder n h → n ≤ m → AreBelow m h
-below n m [] o le = tt
-below n m (Dialled k peer ∷ older) o le = let lt = o.0 in below peer m older o.1 (omega (arith, lt, le))
-below n m (Accepted peer k ∷ older) o le =
-    let lt = o.0 in (omega (arith, lt, le), below peer m older o.1 (omega (arith, lt, le)))
-below n m (_ ∷ older) o le = below n m older o le
-
-pub numbered : (n : ℕ) (h : History) → AreInOrder n h → AreNumbered h
-numbered n [] o = tt
-numbered n (Dialled k peer ∷ older) o = numbered peer older o.1
-numbered n (Accepted peer k ∷ older) o = (below peer peer older o.1 (omega arith), numbered peer older o.1)
-numbered n (_ ∷ older) o = numbered n older o
+numbered : (n m : ℕ) (h : History) → AreInOrder n h → n ≤ m → AreBelow m h × AreNumbered h
+numbered n m [] o le = (tt, tt)
+numbered n m (Dialled k peer ∷ older) o le = let lt = o.0 in numbered peer m older o.1 (omega (arith, lt, le))
+numbered n m (Accepted peer k ∷ older) o le =
+    let lt = o.0 in (
+      (omega (arith, lt, le), (numbered peer m older o.1 (omega (arith, lt, le))).0),
+      numbered peer peer older o.1 (omega arith),
+    )
+numbered n m (_ ∷ older) o le = numbered n m older o le
 
 -- a peer with a greater number was not dialled
 pub unused : (n : ℕ) (h : History) (peer : ℕ) → AreInOrder n h → n ≤ peer → kind_of peer h ≡ None
@@ -83,24 +92,24 @@ unused n (Dialled k q ∷ older) peer o le =
 unused n (Accepted q k ∷ older) peer o le = let lt = o.0 in unused q older peer o.1 (omega (arith, lt, le))
 unused n (_ ∷ older) peer o le = unused n older peer o le
 
--- one that was accepted was not dialled
-came_below : (n : ℕ) (h : History) (peer : ℕ) → AreInOrder n h → Came h peer → peer < n
-came_below n [] peer o c = absurd c
-came_below n (Dialled k q ∷ older) peer o c = let lt = o.0 in let less = came_below q older peer o.1 c in
-    omega (arith, lt, less)
-came_below n (Accepted q k ∷ older) peer o (inl e) = let lt = o.0 in omega (arith, lt, e)
-came_below n (Accepted q k ∷ older) peer o (inr c) = let lt = o.0 in let less = came_below q older peer o.1 c in
-    omega (arith, lt, less)
-came_below n (_ ∷ older) peer o c = came_below n older peer o c
-
-pub undialled : (n : ℕ) (h : History) (peer : ℕ) → AreInOrder n h → Came h peer → kind_of peer h ≡ None
-undialled n [] peer o c = refl
+-- one that was accepted has a number below, and was not dialled
+pub undialled : (n : ℕ) (h : History) (peer : ℕ) → AreInOrder n h → Came h peer
+    → (peer < n) × (kind_of peer h ≡ None)
+undialled n [] peer o c = absurd c
 undialled n (Dialled k q ∷ older) peer o c =
-    let less = came_below q older peer o.1 c in
-    ap (λ b. option_or (cond b (Some k) None) (kind_of peer older)) (ne_eqb q peer (λ e. omega (arith, less, e)))
-    ∙ undialled q older peer o.1 c
-undialled n (Accepted q k ∷ older) peer o (inl e) = unused q older peer o.1 (omega (arith, e))
-undialled n (Accepted q k ∷ older) peer o (inr c) = undialled q older peer o.1 c
+    let lt = o.0 in
+    let x = undialled q older peer o.1 c in
+    let less = x.0 in (
+      omega (arith, lt, less),
+      ap (λ b. option_or (cond b (Some k) None) (kind_of peer older)) (ne_eqb q peer (λ e. omega (arith, less, e)))
+          ∙ x.1,
+    )
+undialled n (Accepted q k ∷ older) peer o (inl e) =
+    let lt = o.0 in (omega (arith, lt, e), unused q older peer o.1 (omega (arith, e)))
+undialled n (Accepted q k ∷ older) peer o (inr c) =
+    let lt = o.0 in
+    let x = undialled q older peer o.1 c in
+    let less = x.0 in (omega (arith, lt, less), x.1)
 undialled n (_ ∷ older) peer o c = undialled n older peer o c
 
 -- ---- sessions that places name
@@ -177,8 +186,8 @@ module _ {run : RelayRun} {relay : Relay} {history : History} (k : Knows run rel
   aside (Dialled kind peer) is = absurd is
   aside (Accepted peer kind) is = absurd is
   aside (Sent peer bytes) is =
-      knows_plain k (Sent peer bytes) refl refl (ap (λ (o : Option Message). option_map (λ message. message.originate) o)
-      is) refl refl refl refl
+      knows_plain k (Sent peer bytes) refl refl
+      (ap (λ (o : Option Message). option_map (λ message. message.originate) o) is) refl refl refl refl
   aside (Heard peer bytes) is =
       knows_plain k (Heard peer bytes) refl refl refl refl (ap (λ o. cond (is_cii o) (Some bytes) None) is)
       (ap (λ o. cond (is_ts o) (Some bytes) None) is) refl
@@ -264,7 +273,7 @@ module _ {run : RelayRun} {start now next : Shown} {p : Progress} {history : His
     progress = progress;
     peers = peers;
     ordered = ordered;
-    numbered = numbered (next.counts.peers + 1) (call ++ history) ordered;
+    numbered = (numbered _ (next.counts.peers + 1) (call ++ history) ordered (omega arith)).1;
   }
 
   -- one entry is added
@@ -344,6 +353,26 @@ module _ {run : RelayRun} {start now next : Shown} {live later : Live} {place : 
     knows = aside (r.known run history s.knows) (Clock w clocked.reading) none;
   }
 
+module _ {run : RelayRun} {start now mid : Shown} {live later : Live} {history : History} {was is : Relay}
+    {clocked : Clocked} where
+  -- for a request of the relay's own
+  pub asks : {place : Place} → Runs run start now (stood live place) history
+      → due_at run (facts_in live) history place ≡ from_ask run (facts_in live) history
+      → (peer : ℕ) → live.wc ≡ Some peer → is_asking run.ask_every live.turn live.asked ≡ true
+      → HasRead now mid live later was is why.Ask clocked
+      → Runs run start mid (stood later (Asking clocked.reading)) (clock_entries why.Ask clocked ++ history)
+  asks s is-due peer some time r =
+      runs_read s
+      (is-due ∙ ap₂ (λ (o : Option ℕ) (c : Bool). cond (is_some o && c) (Now why.Ask) TakeDatagram) some time) r
+      (stood later (Asking clocked.reading)) refl (unnamed history (Asking clocked.reading) refl)
+
+  -- for a landing
+  pub lands : {peer : ℕ} {bytes : List ℕ} → Runs run start now (stood live (Taken peer bytes)) history
+      → is_some (request_in bytes) ≡ false → HasRead now mid live later was is why.Land clocked
+      → Runs run start mid (stood later Served) (clock_entries why.Land clocked ++ history)
+  lands s none r =
+      runs_read s (ap from_taken none) r (stood later Served) refl (unnamed history Served refl)
+
 -- ---- ends
 -- the end is due, or memory is wanting
 pub stops_here : {run : RelayRun} {start now : Shown} {p : Progress} {history : History}
@@ -369,20 +398,17 @@ pub stops_by_memory : {run : RelayRun} {start now : Shown} {p : Progress} {histo
 stops_by_memory {run} {start} {now} s l ended e =
     subst (λ (x : Driven). Stops run start now x) (sym e) (stops_here s l driven.Memory (λ x. x) tt)
 
--- the end is in another form
-pub stops_as : {run : RelayRun} {start now : Shown} {ended : Driven} → Stops run start now ended → (other : Driven)
-    → other ≡ ended → Stops run start now other
-stops_as {run} {start} {now} s other e = subst (λ (x : Driven). Stops run start now x) (sym e) s
+-- ---- what is due where a dial or a request is skipped
+pub ask_undialled : (o : Option ℕ) (b : Bool) (x y : Due) → o ≡ None → cond (is_some o && b) x y ≡ y
+ask_undialled o b x y e = ap (λ (p : Option ℕ). cond (is_some p && b) x y) e
 
--- ---- what is due where a dial is skipped
 pub first_skipped : (o : Option ℕ) (to : Address) (rest : Due) → is_some o ≡ true → dial_first o to rest ≡ rest
 first_skipped None to rest e = absurd (cc)
 first_skipped (Some p) to rest e = refl
 
-pub first_made : (o : Option ℕ) (to : Address) (rest : Due) → is_some o ≡ false → dial_first o to rest ≡
-    Dial kind.Cii to
-first_made None to rest e = refl
-first_made (Some p) to rest e = absurd (cc)
+pub first_made : (o : Option ℕ) (to : Address) (rest : Due) → is_some o ≡ false
+    → dial_first o to rest ≡ Dial kind.Cii to
+first_made o to rest e = ap (λ (p : Option ℕ). dial_first p to rest) (none_if o e)
 
 pub wc_skipped : (o : Option ℕ) (url : Option (Result Address AddressFault)) (rest : Due) → is_some o ≡ true
     → dial_to o kind.Wc WcUrl url rest ≡ rest
@@ -391,8 +417,8 @@ wc_skipped (Some p) url rest e = refl
 
 pub wc_made : (o : Option ℕ) (url found : Option (Result Address AddressFault)) (rest : Due) → is_some o ≡ false
     → url ≡ found → dial_to o kind.Wc WcUrl url rest ≡ dial_to None kind.Wc WcUrl found rest
-wc_made None url found rest e f = ap (λ x. dial_to None kind.Wc WcUrl x rest) f
-wc_made (Some p) url found rest e f = absurd (cc)
+wc_made o url found rest e f =
+    ap₂ (λ (p : Option ℕ) (x : Option (Result Address AddressFault)). dial_to p kind.Wc WcUrl x rest) (none_if o e) f
 
 pub comes : {run : RelayRun} {start now : Shown} {relay : Relay} {live : Live} {history : History} {place : Place}
     → Stands run start now relay (stood live place) history → (to : Facts → History → Due)
@@ -421,7 +447,8 @@ module _ (live : Live) {run : RelayRun} {start now : Shown} {relay : Relay} {his
     All-nil (Came history),
     IfSome_then live.television s.runs.peers.2 (λ peer is.
         ap (λ b. option_or (cond b (Some kind.Wc) None) (kind_of peer history)) (ne_eqb q peer (λ e.
-        let none = unused (now.counts.peers + 1) history peer s.runs.ordered (omega (arith, lt, e)) in absurd (cc))) ∙ is),
+        let none = unused (now.counts.peers + 1) history peer s.runs.ordered (omega (arith, lt, e)) in absurd (cc)))
+        ∙ is),
   )
   knows_dialled kind.Ts q lt opens = absurd (cc)
 
@@ -477,8 +504,8 @@ module _ {run : RelayRun} {start now : Shown} {live : Live} {relay : Relay} wher
       record {
         history = HungUp peer ∷ x.history;
         place = Over rest;
-        stands = stands_as (stands_on x.stands (HungUp peer) (may_as (x.next ∙ ap (from_hang_ups (final (facts_in live)))
-            is) (HungUp peer ∷ []) refl) tt
+        stands = stands_as (stands_on x.stands (HungUp peer)
+            (may_as (x.next ∙ ap (from_hang_ups (final (facts_in live))) is) (HungUp peer ∷ []) refl) tt
             (λ y. subst (λ (at : Place). KnowsPeers (stood live at) x.history) (sym goes)
             (y.0, All-nil (Came x.history), y.2)) a) (stood live (Over rest)) (ap (stood live) goes);
         next = refl;
@@ -486,16 +513,17 @@ module _ {run : RelayRun} {start now : Shown} {live : Live} {relay : Relay} wher
       }
 
   -- all of them were
-  pub all_hung : {left : List ℕ} → HangsUp run start now relay live left → left ≡ []
-      → Stops run start now (final (facts_in live))
-  all_hung x none =
-      stops_here x.stands.runs (lawful x.stands.knows) (final (facts_in live))
+  pub all_hung : {left : List ℕ} {ended : Driven} → ended ≡ final (facts_in live)
+      → HangsUp run start now relay live left → left ≡ [] → Stops run start now ended
+  all_hung e x none =
+      subst (λ (d : Driven). Stops run start now d) (sym e) (stops_here x.stands.runs (lawful x.stands.knows)
+      (final (facts_in live))
       (cond_both (is_some live.cii || is_some live.wc) driven.Done (driven.Unreachable live.made)
       (λ d. IsNetFault d → ⊥) (λ _ e. e) (λ _ e. e))
       (cond_both (is_some live.cii || is_some live.wc) driven.Done (driven.Unreachable live.made)
       (λ d. due_at run (facts_in live) x.history x.place ≡ Ends d
       → MayEnd (due_at run (facts_in live) x.history x.place) d) (λ _ e. e) (λ _ e. e)
-      (x.next ∙ ap (from_hang_ups (final (facts_in live))) none))
+      (x.next ∙ ap (from_hang_ups (final (facts_in live))) none)))
 
 -- ---- loops
 -- the same, seen as another progress
@@ -513,35 +541,25 @@ keeps_on {old} {mid} {new} a b = record {
 }
 
 -- ---- what is counted
--- a run that is cut counts no failed dial
-pub cut_counts : (before now : ℕ) → before ≤ now → (ended : Driven) → IsCut ended → CountsDialFaults before now ended
-cut_counts before now le (driven.Unreachable n) c = absurd c
-cut_counts before now le _ c = le
+-- a run that is cut
+pub cut_so : (before now : ℕ) → before ≤ now → (ended : Driven) → IsCut ended → IsCounted before now ended
+cut_so before now le (driven.Unreachable n) c = absurd c
+cut_so before now le driven.WriteFault c = absurd c
+cut_so before now le _ c = (le, λ e. cc)
 
--- where a dial succeeded, or one failed
-pub ending_counts : (f : Facts) (before now : ℕ) → before ≤ now
+-- or one that made its turns, where a dial succeeded or one failed
+pub ending_so : (f : Facts) (before now : ℕ) → before ≤ now
     → (f.cii ≡ None → HasRisen before now) → (ended : Driven) → (ended ≡ final f) ⊎ IsCut ended
-    → CountsDialFaults before now ended
-ending_counts f before now le tried ended (inl e) =
-    let P : Driven → Type 0 = λ x. CountsDialFaults before now x in
-    subst P (sym e) (by f.cii (is_some f.wc) tried)
+    → IsCounted before now ended
+ending_so f before now le tried ended (inl e) =
+    subst (λ (d : Driven). IsCounted before now d) (sym e) (by f.cii (is_some f.wc) tried)
   where
     by : (o : Option ℕ) (b : Bool) → (o ≡ None → HasRisen before now)
-        → CountsDialFaults before now (cond (is_some o || b) driven.Done (driven.Unreachable f.turns))
-    by None true tried = le
-    by None false tried = tried refl
-    by (Some p) b tried = le
-ending_counts f before now le tried ended (inr c) = cut_counts before now le ended c
-
--- nothing is written
-pub cut_writes : (ended : Driven) → IsCut ended → ended ≡ driven.WriteFault → ⊥
-cut_writes ended c e = let P : Driven → Type 0 = λ x. IsCut x in absurd (subst P e c)
-
-pub ending_writes : (f : Facts) (ended : Driven) → (ended ≡ final f) ⊎ IsCut ended → ended ≡ driven.WriteFault → ⊥
-ending_writes f ended (inl e) is =
-    cond_both (is_some f.cii || is_some f.wc) driven.Done (driven.Unreachable f.turns)
-    (λ d. d ≡ driven.WriteFault → ⊥) (λ _ e. cc) (λ _ e. cc) (sym e ∙ is)
-ending_writes f ended (inr c) is = cut_writes ended c is
+        → IsCounted before now (cond (is_some o || b) driven.Done (driven.Unreachable f.turns))
+    by None true tried = (le, λ e. cc)
+    by None false tried = (tried refl, λ e. cc)
+    by (Some p) b tried = (le, λ e. cc)
+ending_so f before now le tried ended (inr c) = cut_so before now le ended c
 
 pub dials_from : (old new : Counts) (now : ℕ) (ended : Driven) → new ≡ record old { faults = new.faults }
     → CountsDialFaults new.dial_faults now ended → CountsDialFaults old.dial_faults now ended
@@ -566,17 +584,6 @@ pub listens : (run : RelayRun) (now next : Shown) (relay : Relay) → Knows run 
     → Stands run now next relay listening (Listening run.host run.port ∷ [])
 listens run now next relay k a =
     stands_on (record { runs = at_first run now; knows = k }) (Listening run.host run.port) refl tt (λ x. x) a
-
--- nothing was done, for want of memory
-pub ran_none : (run : RelayRun) (told : Option History) → RelayRan run told told driven.Memory
-ran_none run told = record {
-  history = [];
-  grew = no_entries told;
-  proper = Empty;
-  lawful = record { rises = tt; asks = tt };
-  numbered = tt;
-  ends = tt;
-}
 
 -- the variables as they begin
 pub first_facts : (state : State) (peers : List ℕ) → state ≡ empty → peers ≡ []
@@ -605,24 +612,188 @@ was_second limit range (Some first) made reading some last = some first refl
 was_second limit range None made reading none last =
     absurd (never_late limit (Some reading) (Some reading) range refl last)
 
--- where the turn is the last by its time, and where it isn't
-pub begun_at : {run : RelayRun} {start now : Shown} {relay : Relay} {f : Facts} {late last : Bool}
-    → IsAt run start now relay (record { facts = f; place = places.begun run f })
-    → late ≡ is_late run.limit f.first f.turn → late ≡ last
-    → IsAt run start now relay (record { facts = f; place = cond last (Asked []) Begun })
-begun_at {f = f} x is e =
-    is_at_as x (ap {B = Progress} (λ b. record { facts = f; place = cond b (Asked []) Begun }) (sym is ∙ e))
-
+-- the turn's reading was told, and it is the last by its time or isn't
 pub begun : {run : RelayRun} {start now next : Shown} {was is : Relay} {live later : Live} {history : History}
-    {f : Facts} {clocked : Clocked} → Stands run start now was (stood live (Asked [])) history
+    {f : Facts} {late last : Bool} {clocked : Clocked} → Stands run start now was (stood live (Asked [])) history
     → goes_on run.limit live.first live.turn live.made ≡ true
     → HasRead now next live later was is why.Turn clocked
-    → f ≡ with_turn clocked.reading (facts_in later)
-    → IsAt run start next is (record { facts = f; place = places.begun run f })
-begun {run} {live = live} {later} {history} {clocked = clocked} s on r e =
-    here_as (places.begun run) e
+    → f ≡ with_turn clocked.reading (facts_in later) → late ≡ is_late run.limit f.first f.turn → late ≡ last
+    → IsAt run start next is (record { facts = f; place = cond last (Asked []) Begun })
+begun {run} {live = live} {later} {history} {f} {clocked = clocked} s on r e late is =
+    is_at_as (here_as (places.begun run) e
     (stands_read s
     (ap (λ b. cond b (Now why.Turn) (from_hang_ups (final (facts_in live)) (all_open (facts_in live)))) on) tt r
     _ refl (unnamed history (places.begun run (with_turn clocked.reading (facts_in later)))
     (cond_both (is_late run.limit (Some (unwrap_or later.first clocked.reading)) (Some clocked.reading)) (Asked [])
-    Begun (λ at. named at ≡ []) (λ _. refl) (λ _. refl))))
+    Begun (λ at. named at ≡ []) (λ _. refl) (λ _. refl)))))
+    (ap {B = Progress} (λ b. record { facts = f; place = cond b (Asked []) Begun }) (sym late ∙ is))
+
+-- ---- requests of others
+-- what the relay made of what it knew is what its own clock gives after the history
+known_as : {run : RelayRun} (later : Live) {is : Relay} {h : History} {R : Type 0} (of : Local → History → R)
+    (to : R → Place) {result : R} → Knows run is h
+    → ((h : History) → StandsFor is.companion h → result ≡ of (own_of is.companion) h)
+    → ◌≡◌ {A = Progress} (stood later (to (of run.companion.local h))) (stood later (to result))
+known_as later {h = h} of to k value =
+    ap (λ own. stood later (to (of own h))) (sym k.own) ∙ ap (λ x. stood later (to x)) (sym (value h k.stands))
+
+module _ {run : RelayRun} {start now mid : Shown} {live later : Live} {history : History} {was is : Relay}
+    {clocked : Clocked} where
+  pub receives : {peer : ℕ} {bytes : List ℕ} → Stands run start now was (stood live (Taken peer bytes)) history
+      → is_some (request_in bytes) ≡ true → HasRead now mid live later was is why.Take clocked
+      → (result : Result Ticket RelayFault)
+      → ((h : History) → StandsFor is.companion h
+      → result ≡ received_after (own_of is.companion) h clocked.reading bytes)
+      → Stands run start mid is (stood later (received peer result)) (clock_entries why.Take clocked ++ history)
+  receives {peer} {bytes} s some r result value =
+      stands_read s (ap from_taken some) tt r (stood later (received peer result))
+      (known_as later (λ own h. received_after own h clocked.reading bytes) (received peer)
+      (r.known run history s.knows) value)
+      (unnamed history (received peer result) (by result))
+    where
+      by : (x : Result Ticket RelayFault) → named (received peer x) ≡ []
+      by (Err bad) = refl
+      by (Ok ticket) = refl
+
+  pub answers : {peer : ℕ} {ticket : Ticket} → Stands run start now was (stood live (Received peer ticket)) history
+      → HasRead now mid live later was is why.Give clocked → (result : Result (List ℕ) RelayFault)
+      → ((h : History) → StandsFor is.companion h
+      → result ≡ datagram_of (answered_after (own_of is.companion) h clocked.reading ticket))
+      → Stands run start mid is (stood later (answering peer result)) (clock_entries why.Give clocked ++ history)
+  answers {peer} {ticket} s r result value =
+      stands_read s refl tt r (stood later (answering peer result))
+      (known_as later (λ own h. datagram_of (answered_after own h clocked.reading ticket)) (answering peer)
+      (r.known run history s.knows) value) (unnamed history (answering peer result) (by result))
+    where
+      by : (x : Result (List ℕ) RelayFault) → named (answering peer x) ≡ []
+      by (Err bad) = refl
+      by (Ok bytes) = refl
+
+-- ---- sessions that others open
+module _ (live : Live) {run : RelayRun} {start now next : Shown} {history : History} {relay : Relay}
+    (s : Stands run start now relay (stood live Served) history) (faults : next.counts.faults ≡ now.counts.faults) where
+  pub none_came : next.told ≡ with_entries (NoneCame ∷ []) now.told → next.counts.peers ≡ now.counts.peers
+      → Stands run start next relay (stood live (welcomed (facts_in live))) (NoneCame ∷ history)
+  none_came told same = record {
+    runs = runs_more s.runs (NoneCame ∷ []) (None, refl) told faults (stood live (welcomed (facts_in live)))
+        (ap (after run NoneCame history) s.runs.progress)
+        (s.runs.peers.0, all_next (Came history) live.television live.peers.items s.runs.peers.0, s.runs.peers.2)
+        (subst (λ (n : ℕ). AreInOrder (n + 1) history) (sym same) s.runs.ordered);
+    knows = aside s.knows NoneCame tt;
+  }
+
+  pub came : (peer : ℕ) (k : Kind) → next.told ≡ with_entries (Accepted peer k ∷ []) now.told
+      → now.counts.peers < peer → next.counts.peers ≡ peer → (kept : Bool) → kept ≡ is_kept k (length live.peers.items)
+      → Stands run start next relay (opened_if kept peer (facts_in live)) (Accepted peer k ∷ history)
+  came peer k told lt is kept e = record {
+    runs = runs_more s.runs (Accepted peer k ∷ []) (Some (peer, k), refl) told faults
+        (opened_if kept peer (facts_in live))
+        (ap (after run (Accepted peer k) history) s.runs.progress
+        ∙ ap (λ b. opened_if b peer (facts_in live)) (sym e)) (peers kept)
+        (omega (arith, is), in_order_later (now.counts.peers + 1) peer history s.runs.ordered (omega (arith, lt)));
+    knows = knows_plain s.knows (Accepted peer k) refl refl refl refl refl refl refl;
+  }
+    where
+      New : ℕ → Type 0
+      New = Came (Accepted peer k ∷ history)
+
+      all : All New live.peers.items
+      all = All-weaker (Came history) New (λ other c. inr c) live.peers.items s.runs.peers.0
+
+      peers : (b : Bool) → KnowsPeers (opened_if b peer (facts_in live)) (Accepted peer k ∷ history)
+      peers true =
+          let own : All New (peer ∷ []) = All-cons New peer [] (inl refl) (All-nil New) in
+          (All-append New live.peers.items (peer ∷ []) all own, own, s.runs.peers.2)
+      peers false = (all, All-nil New, s.runs.peers.2)
+
+module _ {run : RelayRun} {start now : Shown} {p : Progress} {history : History}
+    (s : Runs run start now p history) where
+  -- the session that a place names first was not dialled
+  pub its_none : {peer : ℕ} {left : List ℕ} → named p.place ≡ peer ∷ left → kind_of peer history ≡ None
+  its_none {peer} {left} e =
+      (undialled (now.counts.peers + 1) history peer s.ordered
+      (All-head (Came history) peer left (subst (λ (xs : List ℕ). All (Came history) xs) e s.peers.1))).1
+
+  -- the television's was, as one of CSS-CII
+  pub its_kind : {peer : ℕ} → p.facts.television ≡ Some peer → kind_of peer history ≡ Some kind.Cii
+  its_kind e =
+      let P : Option ℕ → Type 0 = λ o. IfSome o (λ peer. kind_of peer history ≡ Some kind.Cii) in subst P e s.peers.2
+
+module _ (live : Live) {run : RelayRun} {start now : Shown} {history : History} {relay : Relay} where
+  -- ---- publishing
+  -- what is published is the state and the change that the variables have
+  pub publishes : {state found : State} → Stands run start now relay (published state (facts_in live)) history
+      → found ≡ state → (change : Option (List ℕ)) → change ≡ difference_text live.state found
+      → Stands run start now relay (record {
+        facts = record (facts_in live) { state = found };
+        place = telling_if change (record (facts_in live) { state = found });
+      }) history
+  publishes {state} {found} s e change is =
+      let at : Option (List ℕ) → State → Progress = λ o x. record {
+        facts = record (facts_in live) { state = x };
+        place = telling_if o (record (facts_in live) { state = x });
+      } in
+      stands_as s (at change found)
+      (ap (λ (x : State). at (difference_text live.state x) x) (sym e)
+      ∙ ap (λ (o : Option (List ℕ)). at o found) (sym is))
+
+  -- ---- the television's session, where it is open and where it isn't
+  pub asked_next : Stands run start now relay (stood live (welcomed (facts_in live))) history → (o : Option ℕ)
+      → live.television ≡ o → Stands run start now relay (stood live (next_asked o live.peers.items)) history
+  asked_next s o e =
+      stands_as s (stood live (next_asked o live.peers.items)) (ap (λ x. stood live (next_asked x live.peers.items)) e)
+
+-- ---- the television
+module _ (live : Live) {run : RelayRun} {start now next : Shown} {history : History} {relay : Relay} (peer : ℕ)
+    (s : Stands run start now relay (stood live (Welcomed peer)) history) where
+  -- its text was heard, and is refused or not
+  heard : (bytes : List ℕ) → Adds now next (Heard peer bytes ∷ [])
+      → Runs run start next (television_told (refusal_of (Some bytes) history)
+      (relayed run (Heard peer bytes ∷ history)) (facts_in live)) (Heard peer bytes ∷ history)
+  heard bytes =
+      runs_on s.runs (Heard peer bytes) (session.Text bytes, refl) (λ o. o) (by (refusal_of (Some bytes) history))
+    where
+      state : State
+      state = relayed run (Heard peer bytes ∷ history)
+
+      by : (x : Option CompanionFault) → KnowsPeers (stood live (Welcomed peer)) history
+          → KnowsPeers (television_told x state (facts_in live)) (Heard peer bytes ∷ history)
+      by None x = (
+        x.0,
+        all_telling_if (Came history) (difference_text live.state state) (record (facts_in live) { state = state }) x.0,
+        x.2,
+      )
+      by (Some fault) x = (x.0, All-nil (Came history), x.2)
+
+  -- it ends the run
+  pub refused : (bytes : List ℕ) → Adds now next (Heard peer bytes ∷ []) → (ended : Driven)
+      → IsRefusal (refusal_of (Some bytes) history) ended → Stops run start next ended
+  refused bytes a ended r =
+      stops_here (heard bytes a)
+      (lawful_plain (Heard peer bytes) history (lawful s.knows) refl refl) ended
+      (own_quiet ended (refusal_own (refusal_of (Some bytes) history) ended r))
+      (ends (refusal_of (Some bytes) history) r)
+    where
+      state : State
+      state = relayed run (Heard peer bytes ∷ history)
+
+      ends : (x : Option CompanionFault) → IsRefusal x ended
+          → MayEnd (due_for run (Heard peer bytes ∷ history) (television_told x state (facts_in live))) ended
+      ends None r =
+          refusal_ends None (due_for run (Heard peer bytes ∷ history) (published state (facts_in live))) ended r
+      ends (Some fault) r = refusal_ends (Some fault) (Ends (end_by fault)) ended r
+
+  -- or it is taken in, and the relay publishes
+  pub taken_in : (bytes : List ℕ) → Adds now next (Heard peer bytes ∷ []) → refusal_of (Some bytes) history ≡ None
+      → (later : Relay) → Knows run later (Heard peer bytes ∷ history)
+      → Stands run start next later (published (relayed_state later.wc_url later.companion.state) (facts_in live))
+      (Heard peer bytes ∷ history)
+  taken_in bytes a accepts later k = record {
+    runs = runs_as (heard bytes a) (published (relayed_state later.wc_url later.companion.state) (facts_in live))
+        (ap (λ (x : Option CompanionFault). television_told x (relayed run (Heard peer bytes ∷ history))
+        (facts_in live)) accepts
+        ∙ ap (λ (x : List ℕ). published (relayed_state x (state_of (Heard peer bytes ∷ history))) (facts_in live))
+        (sym k.wc_url)
+        ∙ ap (λ (x : State). published (relayed_state later.wc_url x) (facts_in live)) (sym k.stands.state));
+    knows = k;
+  }

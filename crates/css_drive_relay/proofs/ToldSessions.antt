@@ -11,10 +11,10 @@ use Rattle.css_drive.specs.TvPeers.{has}
 use Rattle.css_drive.specs.TvTold.{lost, sent_to, is_gone}
 use Rattle.css_drive.proofs.TvTold.{none_there}
 use Rattle.css_drive_relay.specs.Places.{Place, Facts, Progress, telling, telling_if, without, opened_if, published}
-use Rattle.css_drive_relay.specs.Places.{Asking, Greeting, Rejecting, Welcomed, Dropping, Over, Telling, Asked}
-use Rattle.css_drive_relay.specs.Places.{progress_of, is_kept, next_asked}
+use Rattle.css_drive_relay.specs.Places.{Asking, Greeting, Welcomed, Dropping, Telling, Asked, progress_of, is_kept}
+use Rattle.css_drive_relay.specs.Places.{next_asked}
 use Rattle.css_drive_relay.proofs.Follows.{waiting, text_at, IsToTell, Follows, Followed, followed, Fits, fits}
-use Rattle.css_drive_relay.proofs.Follows.{on_begun, on_received, on_answered}
+use Rattle.css_drive_relay.proofs.Follows.{on_begun, on_hung_up, on_received, on_answered}
 use Rattle.css_drive_relay.specs.Told.{SessionStates, with_state, while_open, texts_told, relayed, published_at}
 use Rattle.css_drive_relay.specs.Told.{unless_refused, last_published, states_of, SessionsAreTold}
 use Rattle.css_companion.specs.declared.fault.CompanionFault.{CompanionFault}
@@ -95,10 +95,6 @@ owed peer p = texts (count peer (waiting p.place)) (text_at p.place p.facts)
 none_owed : (peer : ℕ) (p : Progress) → waiting p.place ≡ [] → owed peer p ≡ []
 none_owed peer p e = ap (λ xs. texts (count peer xs) (text_at p.place p.facts)) e
 
-waiting_telling : (text left : List ℕ) (f : Facts) → waiting (telling text left f) ≡ left
-waiting_telling text [] f = refl
-waiting_telling text (p ∷ ps) f = refl
-
 owed_telling : (peer : ℕ) (text left : List ℕ) (f : Facts)
     → owed peer (record { facts = f; place = telling text left f }) ≡ texts (count peer left) text
 owed_telling peer text [] f = refl
@@ -165,7 +161,8 @@ module _ {states : Option SessionStates} {last : State} {sent : List (List ℕ)}
 
   -- it is opened
   opens : owed ≡ [] → ToCome → {Later : Type 0} → (Later → ⊥)
-      → Tells (Some (record { opening = last; later = [] })) last sent gone Later (suc kept) (full_text state ∷ []) state
+      → Tells (Some (record { opening = last; later = [] })) last sent gone Later (suc kept) (full_text state ∷ [])
+      state
   opens none new never =
       let f = t.fresh new in
       let closed = f.0 in
@@ -320,18 +317,7 @@ waits_passed : (f : Facts) (place : Place) → waiting place ≡ [] → waiting 
 waits_passed f (Welcomed peer) e = e
 waits_passed f place e = e
 
-waits_hung_up : (f : Facts) (place : Place) → waiting (places.hung_up place f) ≡ []
-waits_hung_up f (Rejecting peer) = waits_welcomed f.television f.peers
-waits_hung_up f (Dropping peer left) = refl
-waits_hung_up f (Over left) = refl
-waits_hung_up f _ = refl
-
 -- ---- places after a text
-waits_told : (place : Place) (f : Facts) → waiting (places.told place f) ≡ places.without_first (waiting place)
-waits_told (Greeting peer) f = waits_welcomed f.television f.peers
-waits_told (Telling text left) f = waiting_telling text (places.without_first left) f
-waits_told place f = refl
-
 owes_told : (peer : ℕ) (place : Place) (f g : Facts) (text : List ℕ) → text_at place f ≡ text
     → texts (count peer (places.without_first (waiting place))) text
     ≡ owed peer (record { facts = g; place = places.told place g })
@@ -472,9 +458,12 @@ module _ (run : RelayRun) (peer : ℕ) (older : History) (t : Good run peer olde
   after (Heard other bytes) c n = after_heard c.0 other bytes p.place c.0
   after (Closed other) c n = after_closed c.0 other p.place c.0
   after (Wrote other text) c n =
-      same (wrote_one (eqb other peer) _ text (due other text c)) refl (owes_told peer p.place p.facts p.facts text c.1) refl
+      same (wrote_one (eqb other peer) _ text (due other text c)) refl
+      (owes_told peer p.place p.facts p.facts text c.1) refl
   after (Gone other) c n = after_gone other c.0 c.1
-  after (HungUp other) c n = stays c.0 (next (HungUp other)) refl refl (waits_hung_up p.facts p.place)
+  after (HungUp other) c n =
+      stays c.0 (next (HungUp other)) refl refl (on_hung_up (λ place. waiting place ≡ []) p.place p.facts
+      (waits_welcomed p.facts.television p.facts.peers) (λ left. refl) (λ left. refl))
   after Slept c n = stays c.0 (next Slept) refl refl c.0
   after entry c n = stays c.0 (next entry) refl refl refl
 

@@ -1,5 +1,5 @@
 -- How the variables of a relay's run stand for its history.
-use Rattle.std.specs.Prelude.{◌≡◌, ◌≤◌, ◌<◌, ◌+◌, ℕ, List, [], ◌∷◌, ◌++◌, All, Some, None, IfSome, ◌⊎◌, Result}
+use Rattle.std.specs.Prelude.{◌≡◌, ◌≢◌, ◌≤◌, ◌<◌, ◌+◌, ℕ, List, [], ◌∷◌, ◌++◌, All, Some, None, IfSome, ◌⊎◌, Result}
 use Rattle.std.specs.Prelude.{MatchResult, IfErr, ⊤}
 use Rattle.css_model.specs.declared.TheConstants.{LIMIT}
 use Rattle.css_model.specs.declared.Kind.TheVariants as kind
@@ -12,10 +12,11 @@ use Rattle.css_companion.specs.Meanings.{kind_of}
 use Rattle.css_companion.specs.Standing.{StandsFor, own_of}
 use Rattle.css_relay.specs.Relays.{Relay, wc_url_of}
 use Rattle.css_drive.specs.CompanionStanding.{Shown, IsCut, asked_after}
-use Rattle.css_drive.specs.Ends.{CountsNetFault}
+use Rattle.css_drive.specs.Ends.{CountsNetFault, CountsDialFaults}
 use Rattle.css_drive.specs.Proper.{Due}
 use Rattle.css_drive.specs.TvRan.{AreNumbered}
 use Rattle.css_drive.specs.declared.driven.Driven.{Driven}
+use Rattle.css_drive.specs.declared.driven.Driven.TheVariants as driven
 use Rattle.css_drive_relay.specs.Places.{Place, Greeting, Telling, Asked, Dropping, Over, Facts, Progress, beginning}
 use Rattle.css_drive_relay.specs.Places.{progress_of, hung_up, without_first, telling}
 use Rattle.css_drive_relay.specs.Ran.{RelayRan}
@@ -160,6 +161,10 @@ pub record HangsUp (run : RelayRun) (start now : Shown) (relay : Relay) (live : 
   pub stands : Stands run start now relay (stood live place) history
   pub next : due_at run (facts_in live) history place ≡ from_hang_ups (final (facts_in live)) left
   pub after : hung_up place (facts_in live) ≡ Over (without_first left)
+
+-- A failed dial was counted where every dial failed, and nothing was written.
+abbrev pub IsCounted : ℕ → ℕ → Driven → Type 0
+IsCounted before now ended = CountsDialFaults before now ended × (ended ≢ driven.WriteFault)
 
 -- Where no dial of CSS-CII succeeded in a turn, one failed.
 abbrev pub HasTried : Counts → Counts → Live → Type 0

@@ -9,7 +9,7 @@ ghost use Rattle.css_relay.specs.Relays.{Relay as KnownRelay, relayed_state};
 ghost use Rattle.css_drive.specs.CompanionDue.{refusal_of};
 ghost use Rattle.css_drive.specs.CompanionStanding.{Shown, shown, IsCut, IsRefusal};
 ghost use Rattle.css_drive_relay.specs.Places as places;
-ghost use Rattle.css_drive_relay.specs.Places.{Served, Asked, welcomed, telling, published};
+ghost use Rattle.css_drive_relay.specs.Places.{Served, Asked, welcomed, published};
 ghost use Rattle.css_drive_relay.specs.Standing.{facts_in, stood, Stands, Knows, Arrives, Keeps, visiting};
 
 use crate::calls::or_memory;

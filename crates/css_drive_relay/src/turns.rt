@@ -1,16 +1,14 @@
 //! A relay's run over any devices.
-ghost use Rattle.std.specs.Prelude.{◌≡◌, ◌≢◌, ◌≤◌, ◌<◌, ◌+◌, [], true, OnOk, IfOk, IfErr, None};
+ghost use Rattle.std.specs.Prelude.{◌≡◌, ◌≤◌, ◌<◌, ◌+◌, [], true, OnOk, IfOk, IfErr, None};
 ghost use Rattle.css_model.specs.History.{History};
 ghost use Rattle.css_outside.specs.Faults.{HasRisen};
 ghost use Rattle.css_outside.specs.Outsides.{Counts};
 ghost use Rattle.css_drive.specs.CompanionStanding.{Shown, shown, IsCut};
 ghost use Rattle.css_drive.specs.CompanionTurns as turns;
-ghost use Rattle.css_drive_relay.specs.Places as places;
 ghost use Rattle.css_drive_relay.specs.Places.{Asked, Begun};
-ghost use Rattle.css_drive.specs.Ends.{CountsDialFaults};
 ghost use Rattle.css_drive_relay.specs.Ran.{IsWritable, RelayRan, CountsRelayRun};
-ghost use Rattle.css_drive_relay.specs.Standing.{facts_in, stood, listening, Stands, Stops, Knows, Arrives};
-ghost use Rattle.css_drive_relay.specs.Standing.{Keeps, HasTried};
+ghost use Rattle.css_drive_relay.specs.Standing.{stood, listening, Stands, Stops, Knows, Arrives};
+ghost use Rattle.css_drive_relay.specs.Standing.{Keeps, HasTried, IsCounted};
 
 use crate::calls::read;
 use crate::config::RelayRun;
@@ -29,35 +27,6 @@ use css_num::Memory;
 use css_outside::{Outside, Why};
 use css_relay::Relay;
 use std::alloc::Global;
-
-/// Begins a turn.
-fn begin<O: Outside>(
-    run: &RelayRun,
-    live: &mut Live,
-    relay: &mut Relay,
-    outside: &mut O,
-) -> Result<(), Driven>
-    requires floor { relay.old.companion.client.floor ≤ (O.counts outside.old).last }
-    requires few { live.old.made < 1099511627776 }
-    ensures goes { (start : Shown) (history : History)
-        → Stands run.now start (shown (O.told outside.old) (O.counts outside.old)) relay.old (stood live.old (Asked []))
-        history → turns.goes_on run.now.limit live.old.first live.old.turn live.old.made ≡ true
-        → Arrives run.now start (shown (O.told outside.new) (O.counts outside.new)) relay.new live.new
-        (places.begun run.now (facts_in live.new)) result }
-    ensures floor { OnOk result (relay.new.companion.client.floor ≤ (O.counts outside.new).last) }
-    ensures made { OnOk result (live.new.made ≡ live.old.made + 1) }
-    ensures second { OnOk result (turns.is_late run.now.limit live.new.first live.new.turn ≡ true
-        → 1 ≤ live.old.made) }
-    ensures cii { OnOk result (live.new.cii ≡ live.old.cii) }
-    ensures dials { (O.counts outside.old).dial_faults ≤ (O.counts outside.new).dial_faults }
-    ensures cut { IfErr result IsCut }
-{
-    let reading = read(outside, relay, live, Why::Turn)?.reading;
-    live.made += 1;
-    live.first = Some(live.first.unwrap_or(reading));
-    live.turn = Some(reading);
-    Ok(())
-}
 
 /// Makes the calls of a turn: to the television, to further companions, and what it hears of all of them.
 fn calls<O: Outside>(
@@ -110,7 +79,10 @@ fn turn<O: Outside>(
         → OnOk result (HasTried before (O.counts outside.new) live.new) }
     ensures cut { IfErr result IsCut }
 {
-    begin(run, live, relay, outside)?;
+    let reading = read(outside, relay, live, Why::Turn)?.reading;
+    live.made += 1;
+    live.first = Some(live.first.unwrap_or(reading));
+    live.turn = Some(reading);
     if is_late(run.limit, live.first, live.turn) {
         return Ok(());
     }
@@ -142,8 +114,7 @@ fn make_turns<O: Outside>(
     ensures ends { (start : Shown) (history : History)
         → Stands run.now start (shown (O.told outside.old) (O.counts outside.old)) relay.old listening history
         → Stops run.now start (shown (O.told outside.new) (O.counts outside.new)) result }
-    ensures dials { CountsDialFaults (O.counts outside.old).dial_faults (O.counts outside.new).dial_faults result }
-    ensures no_writes { result ≢ Driven.WriteFault }
+    ensures counted { IsCounted (O.counts outside.old).dial_faults (O.counts outside.new).dial_faults result }
 {
     let mut live = Live {
         made: 0,

@@ -7,19 +7,18 @@ use Rattle.css_drive.specs.CompanionDue.{send_to}
 use Rattle.css_drive.specs.Proper.{SendDatagram}
 use Rattle.css_drive_relay.specs.Places.{Facts}
 use Rattle.css_drive_relay.proofs.Steps as steps
-use Rattle.css_drive_relay.proofs.Serves as serves
 use Rattle.css_drive_relay.proofs.datagrams.ask.Goals as goal
 
 pub returns-in_default-clause-goes : goal.returns-in_default-clause-goes
 returns-in_default-clause-goes g c start h at s d =
-    steps.comes s _ (d ∙ serves.ask_undialled _ _ _ _ c.in_default.is)
+    steps.comes s _ (d ∙ steps.ask_undialled _ _ _ _ c.in_default.is)
 
 pub returns-clause-goes : goal.returns-clause-goes
 returns-clause-goes g c start h at s d =
     let read = c.in_ok-clocked.ensures.told in
     let clocked : Clocked = c.in_ok-clocked.clocked in
     let time = sym c.is_time.ensures ∙ c.if-not-is_time.false in
-    let s1 = serves.asks {clocked = clocked} s.runs d c.in-Some.peer c.in-Some.is time read in
+    let s1 = steps.asks {clocked = clocked} s.runs d c.in-Some.peer c.in-Some.is time read in
     let k1 = read.known c.args.run.now h s.knows in
     let some = ap {A = Facts} (λ x. x.wc) read.only ∙ c.in-Some.is in
     steps.comes (record {
@@ -41,5 +40,5 @@ returns-in_err-send_datagram-clause-goes g c start h at s d =
     let l = (c.ask-bytes.ensures.stands _ c.in-Some.peer k1.stands).client.lawful in
     at_err _ _ _ _ c.from_residual-in_err-send_datagram.ensures.1
     (steps.stops_by_fault
-    (serves.asks {clocked = c.in_ok-clocked.clocked} s.runs d c.in-Some.peer c.in-Some.is time read)
+    (steps.asks {clocked = c.in_ok-clocked.clocked} s.runs d c.in-Some.peer c.in-Some.is time read)
     (record { rises = l.rises.1; asks = l.asks.1 }) c.in_err-send_datagram.ensures.told)

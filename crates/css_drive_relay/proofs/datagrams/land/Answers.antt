@@ -4,7 +4,6 @@ use Rattle.css_model.specs.History.{Clock}
 use Rattle.css_outside.specs.declared.calls.Clocked.{Clocked}
 use Rattle.css_drive.proofs.CompanionCalls.{lawful_plain}
 use Rattle.css_drive.proofs.CompanionSteps.{at_err}
-use Rattle.css_drive_relay.proofs.Serves as serves
 use Rattle.css_drive_relay.proofs.Steps as steps
 use Rattle.css_drive_relay.proofs.datagrams.land.Goals as goal
 
@@ -13,7 +12,7 @@ returns-then-clocked-clause-goes g c start h peer s k none =
     let read = c.in_ok-clocked.ensures.told in
     let clocked : Clocked = c.in_ok-clocked.clocked in
     steps.here (record {
-      runs = serves.lands {clocked = clocked} s.runs none read;
+      runs = steps.lands {clocked = clocked} s.runs none read;
       knows = rw c.if-clocked.true (steps.knows_plain (rw c.if-clocked.true at (read.known c.args.run.now _ s.knows))
           (Clock why.Land clocked.reading) refl refl refl refl refl refl refl);
     })
@@ -23,7 +22,7 @@ returns-clause-goes g c start h peer s k none =
     let read = c.in_ok-clocked.ensures.told in
     let clocked : Clocked = c.in_ok-clocked.clocked in
     steps.here (record {
-      runs = serves.lands {clocked = clocked} s.runs none read;
+      runs = steps.lands {clocked = clocked} s.runs none read;
       knows = rw c.if-clocked.false (let k1 = rw c.if-clocked.false at (read.known c.args.run.now h k) in record {
         stands = rw c.in_ok-or_memory.ensures.ok at c.land.ensures.stands h peer k1.stands;
         own = c.land.ensures.own ∙ k1.own;
@@ -36,6 +35,6 @@ returns-in_err-or_memory-clause-goes g c start h peer s k none =
     let read = c.in_ok-clocked.ensures.told in
     let clocked : Clocked = c.in_ok-clocked.clocked in
     at_err _ _ _ _ c.from_residual-in_err-or_memory.ensures.1
-    (steps.stops_by_memory (serves.lands {clocked = clocked} s.runs none read)
+    (steps.stops_by_memory (steps.lands {clocked = clocked} s.runs none read)
     (lawful_plain (Clock why.Land clocked.reading) _ (steps.lawful (read.known c.args.run.now _ s.knows)) refl refl) _
     c.in_err-or_memory.ensures.err)

@@ -21,16 +21,17 @@ loop-peer-preserved g c =
     record {
       goes = λ start relay h s enough.
           steps.hung (c.loop-peer.invariant.goes start relay h s enough) e c.in_default-hang_up.ensures.told;
-      dials = omega (arith, c.loop-peer.invariant.dials, ap (λ x. x.dial_faults) c.in_default-hang_up.ensures.told.same);
+      dials =
+          omega (arith, c.loop-peer.invariant.dials, ap (λ x. x.dial_faults) c.in_default-hang_up.ensures.told.same);
     }
 
 pub returns-clause-ends : goal.returns-clause-ends
 returns-clause-ends g c start relay h s enough =
     let i : ℕ = c.loop-peer.peer-index in
     let over = c.loop-peer-test.false in
-    steps.stops_as (steps.all_hung (c.loop-peer.invariant.goes start relay h s enough)
+    steps.all_hung c.ending.ensures (c.loop-peer.invariant.goes start relay h s enough)
     (subst (λ (xs : List ℕ). drop i xs ≡ []) (c.deref-peer-items.ensures.value ∙ c.in-Ok.ensures)
-    (peers_all c.deref-peer-items.result.now i (omega (arith, over))))) _ c.ending.ensures
+    (peers_all c.deref-peer-items.result.now i (omega (arith, over))))
 
 pub returns-in-Err-clause-ends : goal.returns-in-Err-clause-ends
 returns-in-Err-clause-ends g c start relay h s enough =

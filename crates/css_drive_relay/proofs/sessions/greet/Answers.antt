@@ -3,7 +3,6 @@ use Rattle.css_model.specs.History.{Wrote, Gone}
 use Rattle.css_outside.specs.declared.calls.Wrote.TheVariants as outcome
 use Rattle.css_companion.specs.Meanings.{is_ts}
 use Rattle.css_drive_relay.specs.Places.{Facts, lost, welcomed}
-use Rattle.css_drive_relay.proofs.Serves as serves
 use Rattle.css_drive_relay.proofs.Steps as steps
 use Rattle.css_drive_relay.specs.Standing.{Came, facts_in}
 use Rattle.css_drive_relay.proofs.sessions.greet.Goals as goal
@@ -19,7 +18,7 @@ returns-clause-goes g c start relay h s =
           (outcome.Sent, ap (λ x. Wrote c.args.peer x ∷ []) text) tt
           (λ x. (x.0, steps.all_next (Came h) _ _ x.0, x.2)) (rw w.in-Sent.is at c.in_ok-send_text.ensures.told)))
       | in-Gone w ↦ rw w.live-is (steps.here_as welcomed (w.forget.ensures ∙ ap (lost c.args.peer) pushed)
-          (steps.stands_on s (Gone _) (outcome.Gone, refl) (ap is_ts (serves.its_none s.runs refl))
+          (steps.stands_on s (Gone _) (outcome.Gone, refl) (ap is_ts (steps.its_none s.runs refl))
           (λ x. let all = steps.all_without (Came h) c.args.peer _ x.0 in (all, steps.all_next (Came h) _ _ all, x.2))
           (rw w.in-Gone.is at c.in_ok-send_text.ensures.told)))
     ]

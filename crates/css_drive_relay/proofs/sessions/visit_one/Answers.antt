@@ -6,7 +6,6 @@ use Rattle.css_outside.specs.declared.calls.Wrote.TheVariants as outcome
 use Rattle.css_companion.specs.Meanings.{is_ts}
 use Rattle.css_drive_relay.specs.Places.{Asked, Dropping, telling}
 use Rattle.css_drive_relay.specs.Standing.{Came}
-use Rattle.css_drive_relay.proofs.Serves as serves
 use Rattle.css_drive_relay.proofs.Steps as steps
 use Rattle.css_drive_relay.proofs.sessions.visit_one.Goals as goal
 
@@ -20,7 +19,7 @@ pub returns-in-Tell-clause-goes : goal.returns-in-Tell-clause-goes
 returns-in-Tell-clause-goes g c start relay h left s =
     let s1 = rw c.in-Tell.is at s in
     rw c.in-Tell.is (steps.here_as (telling c.in-Tell.text left) c.forget.ensures (steps.stands_on s1 (Gone _)
-    (outcome.Gone, refl) (ap is_ts (serves.its_none s1.runs refl))
+    (outcome.Gone, refl) (ap is_ts (steps.its_none s1.runs refl))
     (λ x. let all = steps.all_without (Came h) c.args.peer _ x.0 in
     (all, steps.all_telling (Came h) _ left _ (All-tail (Came h) _ left x.1) all, x.2))
     (rw c.in-Gone.is at c.in_ok-send_text-in-Tell.ensures.told)))
@@ -34,7 +33,7 @@ pub returns-in-Ok-Closed-clause-goes : goal.returns-in-Ok-Closed-clause-goes
 returns-in-Ok-Closed-clause-goes g c start relay h left s =
     let s1 = rw c.in-Hear.is at s in
     rw c.in-Hear.is (steps.here_as (λ f. Asked left) c.forget-in-Ok-Closed.ensures
-    (steps.stands_on s1 (Closed _) (session.Closed, refl) (ap is_ts (serves.its_none s1.runs refl))
+    (steps.stands_on s1 (Closed _) (session.Closed, refl) (ap is_ts (steps.its_none s1.runs refl))
     (λ x. (steps.all_without (Came h) c.args.peer _ x.0, All-tail (Came h) _ left x.1, x.2))
     (rw c.in-Ok-Closed.field-0-is at c.in-Ok-Closed.ensures.told)))
 
@@ -42,7 +41,7 @@ pub returns-clause-goes : goal.returns-clause-goes
 returns-clause-goes g c start relay h left s =
     let s1 = rw c.in-Hear.is at s in
     let x = steps.here_as (λ f. Dropping c.args.peer left) c.forget-in-Ok-Text.ensures
-    (steps.stands_on s1 (Heard _ c.in-Ok-Text.field-0-0) (session.Text _, refl) (serves.its_none s1.runs refl)
+    (steps.stands_on s1 (Heard _ c.in-Ok-Text.field-0-0) (session.Text _, refl) (steps.its_none s1.runs refl)
     (λ x. (steps.all_without (Came h) c.args.peer _ x.0, All-tail (Came h) _ left x.1, x.2))
     (rw c.in-Ok-Text.field-0-is at c.in-Ok-Text.ensures.told)) in
     rw c.in-Hear.is (steps.made x.stands (HungUp _) refl tt (λ y. y) _ c.hang_up.result c.hang_up.ensures.told)

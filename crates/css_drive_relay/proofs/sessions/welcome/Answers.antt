@@ -2,13 +2,12 @@ use Rattle.std.proofs.Common.{refl, sym, ◌∙◌, ap, true, false, ◌∷◌}
 use Rattle.css_model.specs.History.{Accepted, HungUp}
 use Rattle.css_drive_relay.specs.Places.{is_kept}
 use Rattle.css_drive_relay.specs.Standing.{Came}
-use Rattle.css_drive_relay.proofs.Serves as serves
 use Rattle.css_drive_relay.proofs.Steps as steps
 use Rattle.css_drive_relay.proofs.sessions.welcome.Goals as goal
 
 pub returns-in-Ok-None-clause-goes : goal.returns-in-Ok-None-clause-goes
 returns-in-Ok-None-clause-goes g c start relay h s =
-    steps.here (serves.none_came c.args.live.now s c.in-Ok-None.ensures.counted.faults
+    steps.here (steps.none_came c.args.live.now s c.in-Ok-None.ensures.counted.faults
     (rw c.in-Ok-None.field-0-is at c.in-Ok-None.ensures.told)
     (rw c.in-Ok-None.field-0-is at c.in-Ok-None.ensures.counted.peer))
 
@@ -16,7 +15,7 @@ pub returns-then-is_kept-clause-goes : goal.returns-then-is_kept-clause-goes
 returns-then-is_kept-clause-goes g c start relay h s =
     let opens = rw c.in-Ok-Some.field-0-is at c.in-Ok-Some.ensures.counted.peer in
     c.greet.ensures.goes start relay _
-    (serves.came c.args.live.now s c.in-Ok-Some.ensures.counted.faults c.in-Ok-Some.peer c.in-Ok-Some.kind
+    (steps.came c.args.live.now s c.in-Ok-Some.ensures.counted.faults c.in-Ok-Some.peer c.in-Ok-Some.kind
     (rw c.in-Ok-Some.field-0-is at c.in-Ok-Some.ensures.told) opens.0 opens.1 true
     (sym c.if-is_kept.true ∙ c.is_kept.ensures ∙ ap (is_kept _) (c.len.ensures ∙ c.args.live.now.peers.ok.0)))
 
@@ -24,7 +23,7 @@ pub returns-else-is_kept-clause-goes : goal.returns-else-is_kept-clause-goes
 returns-else-is_kept-clause-goes g c start relay h s =
     let came = Accepted c.in-Ok-Some.peer c.in-Ok-Some.kind in
     let opens = rw c.in-Ok-Some.field-0-is at c.in-Ok-Some.ensures.counted.peer in
-    steps.made (serves.came c.args.live.now s c.in-Ok-Some.ensures.counted.faults c.in-Ok-Some.peer
+    steps.made (steps.came c.args.live.now s c.in-Ok-Some.ensures.counted.faults c.in-Ok-Some.peer
     c.in-Ok-Some.kind (rw c.in-Ok-Some.field-0-is at c.in-Ok-Some.ensures.told) opens.0 opens.1 false
     (sym c.if-is_kept.false ∙ c.is_kept.ensures ∙ ap (is_kept _) (c.len.ensures ∙ c.args.live.now.peers.ok.0)))
     (HungUp _) refl tt (λ x. (x.0, steps.all_next (Came (came ∷ h)) _ _ x.0, x.2)) _ c.hang_up.result

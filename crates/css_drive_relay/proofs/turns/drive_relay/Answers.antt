@@ -2,10 +2,14 @@ use Rattle.std.proofs.Common.{None, refl, ap, arith}
 use Rattle.css_drive.proofs.CompanionCalls.{plain_adds}
 use Rattle.css_drive_relay.proofs.Steps as steps
 use Rattle.css_drive.specs.CompanionStanding.{shown}
+use Rattle.css_drive.specs.declared.driven.Driven.TheVariants as driven
 use Rattle.css_drive_relay.proofs.turns.drive_relay.Goals as goal
 
 pub returns-in_default-clause-ran : goal.returns-in_default-clause-ran
-returns-in_default-clause-ran g c = steps.ran_none c.args.config _
+returns-in_default-clause-ran g c =
+    (steps.stops_here (steps.at_first c.args.config
+    (shown (g.O.Outside.told c.args.outside.now) (g.O.Outside.counts c.args.outside.now)))
+    (record { rises = tt; asks = tt }) driven.Memory (λ x. x) tt).ran
 
 pub returns-clause-ran : goal.returns-clause-ran
 returns-clause-ran g c =
@@ -22,15 +26,16 @@ returns-in-Ok-listen-clause-ran g c =
     c.in-Ok-listen.ensures.counted.same c.in-Ok-listen.ensures.counted.faults))).ran
 
 pub returns-clause-counted : goal.returns-clause-counted
-returns-clause-counted g c = record {
-  faults = (c.end_of.ensures.failed (shown (g.O.Outside.told c.args.outside.now) (g.O.Outside.counts
-      c.args.outside.now)) (shown (g.O.Outside.told c.listen.new.self) (g.O.Outside.counts c.listen.new.self))
-      None refl c.in-Err.ensures.told c.in-Err.ensures.counted.faults
-      (ap (λ x. x.dial_faults) c.in-Err.ensures.counted.same)).counted;
-  dials = steps.dials_from (g.O.Outside.counts c.args.outside.now) (g.O.Outside.counts c.listen.new.self) _ _
-      c.in-Err.ensures.counted.same (steps.cut_counts _ _ (omega arith) _ c.end_of.ensures.cut);
-  no_writes = steps.cut_writes _ c.end_of.ensures.cut;
-}
+returns-clause-counted g c =
+    let so = steps.cut_so _ _ (omega arith) _ c.end_of.ensures.cut in record {
+      faults = (c.end_of.ensures.failed (shown (g.O.Outside.told c.args.outside.now) (g.O.Outside.counts
+          c.args.outside.now)) (shown (g.O.Outside.told c.listen.new.self) (g.O.Outside.counts c.listen.new.self))
+          None refl c.in-Err.ensures.told c.in-Err.ensures.counted.faults
+          (ap (λ x. x.dial_faults) c.in-Err.ensures.counted.same)).counted;
+      dials = steps.dials_from (g.O.Outside.counts c.args.outside.now) (g.O.Outside.counts c.listen.new.self) _ _
+          c.in-Err.ensures.counted.same so.0;
+      no_writes = so.1;
+    }
 
 pub returns-in-Ok-listen-clause-counted : goal.returns-in-Ok-listen-clause-counted
 returns-in-Ok-listen-clause-counted g c = record {
@@ -38,6 +43,6 @@ returns-in-Ok-listen-clause-counted g c = record {
       (steps.listens c.args.config _ _ _ c.in-Ok.ensures.known (plain_adds c.in-Ok-listen.ensures.told
       c.in-Ok-listen.ensures.counted.same c.in-Ok-listen.ensures.counted.faults))).counted;
   dials = steps.dials_from (g.O.Outside.counts c.args.outside.now) (g.O.Outside.counts c.listen.new.self) _ _
-      c.in-Ok-listen.ensures.counted.same c.make_turns.ensures.dials;
-  no_writes = c.make_turns.ensures.no_writes;
+      c.in-Ok-listen.ensures.counted.same c.make_turns.ensures.counted.0;
+  no_writes = c.make_turns.ensures.counted.1;
 }

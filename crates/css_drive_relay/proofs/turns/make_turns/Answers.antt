@@ -33,27 +33,21 @@ pub turn-requires-clause-few : goal.turn-requires-clause-few
 turn-requires-clause-few g c =
     below_most _ _ _ _ c.args.run.now.limit_range (sym c.goes_on.ensures ∙ c.turns-test.true)
 
-pub returns-in-Err-clause-dials : goal.returns-in-Err-clause-dials
-returns-in-Err-clause-dials g c =
-    steps.cut_counts _ _ (omega (arith, c.turns.invariant.dials, c.turn.ensures.dials)) _ c.in-Err.ensures.cut
-
-pub returns-in-Err-clause-no_writes : goal.returns-in-Err-clause-no_writes
-returns-in-Err-clause-no_writes g c = steps.cut_writes _ c.in-Err.ensures.cut
+pub returns-in-Err-clause-counted : goal.returns-in-Err-clause-counted
+returns-in-Err-clause-counted g c =
+    steps.cut_so _ _ (omega (arith, c.turns.invariant.dials, c.turn.ensures.dials)) _ c.in-Err.ensures.cut
 
 pub returns-clause-ends : goal.returns-clause-ends
 returns-clause-ends g c start h s =
     let x = c.turns.invariant.goes start h s in
     c.finish.ensures.ends start _ x.history x.stands (sym c.goes_on.ensures ∙ c.turns-test.false)
 
-pub returns-clause-dials : goal.returns-clause-dials
-returns-clause-dials g c =
+pub returns-clause-counted : goal.returns-clause-counted
+returns-clause-counted g c =
     let i = c.turns.invariant in
     let run = c.args.run.now in
     let live = c.turns.live in
     let some = steps.was_begun run.limit run.limit_range live.first live.turn live.made live.first_made
     (sym c.goes_on.ensures ∙ c.turns-test.false) in
-    steps.ending_counts (facts_in live) _ _ (omega (arith, i.dials, c.finish.ensures.dials))
+    steps.ending_so (facts_in live) _ _ (omega (arith, i.dials, c.finish.ensures.dials))
     (λ none. risen_to _ _ _ c.finish.ensures.dials (i.tried some none)) _ c.finish.ensures.kind
-
-pub returns-clause-no_writes : goal.returns-clause-no_writes
-returns-clause-no_writes g c = steps.ending_writes (facts_in c.turns.live) _ c.finish.ensures.kind
