@@ -1,4 +1,4 @@
-use Rattle.std.proofs.Common.{refl, sym, ◌∙◌, subst, ◌++◌}
+use Rattle.std.proofs.Common.{refl, sym, ◌∙◌, subst, ◌++◌, true, false}
 use Rattle.css_model.specs.History.{Clock}
 use Rattle.css_model.specs.declared.Why.TheVariants as why
 use Rattle.css_outside.specs.Outsides.{sleep_entries}
@@ -24,9 +24,9 @@ returns-then-due-clause-goes g c before started h s k d =
     let so = runs.reports_so cfg _ slept clocked.reading report known (c.report-report.ensures.report _ known.stands) in
     let after = g.W.Observes.saw started c.reported.new.self in
     let saw = c.reported.ensures (standpoint cfg h) known started _ c.in_ok-clocked.ensures.on (c.in_ok-clocked.ensures.saw started _ s.saw_so) in
-    comes (calls.stands_read s read d (subst after (sym (ends.reported_notes cfg slept live clocked.reading f due _
+    comes (calls.stands_read s read d (subst after (sym (ends.begun_notes cfg slept live clocked.reading f true due _
     (calls.slept_noted cfg h clocked.slept) report so)) saw) _
-    (ends.reported_facts cfg slept live clocked.reading f due _ c.unwrap_or.ensures))
+    (ends.begun_facts cfg slept live clocked.reading f true due _ c.unwrap_or.ensures))
     (calls.knows_plain (Clock why.Turn clocked.reading) known refl refl refl refl refl refl refl) _ refl
 
 pub returns-clause-goes : goal.returns-clause-goes
@@ -41,9 +41,9 @@ returns-clause-goes g c before started h s k d =
     let due = sym c.reports_at-due.ensures ∙ c.if-due.false in
     let after = g.W.Observes.saw started c.turned.new.self in
     let saw = c.turned.ensures (standpoint cfg h) known started _ c.in_ok-clocked.ensures.on (c.in_ok-clocked.ensures.saw started _ s.saw_so) in
-    comes (calls.stands_read s read d (subst after (sym (ends.turned_notes cfg slept live clocked.reading f due _
-    (calls.slept_noted cfg h clocked.slept))) saw) _
-    (ends.turned_facts cfg slept live clocked.reading f due _ c.unwrap_or.ensures))
+    comes (calls.stands_read s read d (subst after (sym (ends.begun_notes cfg slept live clocked.reading f false due _
+    (calls.slept_noted cfg h clocked.slept) _ refl)) saw) _
+    (ends.begun_facts cfg slept live clocked.reading f false due _ c.unwrap_or.ensures))
     (calls.knows_plain (Clock why.Turn clocked.reading) known refl refl refl refl refl refl refl) _ refl
 
 pub returns-in_err-clocked-clause-goes : goal.returns-in_err-clocked-clause-goes
