@@ -285,11 +285,6 @@ pub record HasRead (old new : Shown) (before now : Live) (was is : Companion) (w
       → Knows config is (sleep_entries clocked.slept ++ history)
   pub only : facts_in now ≡ record (facts_in before) { asked = asked_after clocked.slept before.asked }
 
--- a TS session was opened, and the companion knows
-abbrev pub HasBegun : Companion → Companion → Type 0
-HasBegun was is = (config : DriveConfig) (history : History) (peer : ℕ) → Knows config was history
-    → Knows config is (Dialled kind.Ts peer ∷ history)
-
 -- what is open of a session once that of a peer is over
 abbrev pub still : Option ℕ → ℕ → Option ℕ
 still session peer = unless (is_peer session peer) session
