@@ -200,16 +200,11 @@ module _ {config : DriveConfig} {before now : Shown} {saw : List Note → Type 0
       ∙ ap (λ b. b && goes_on config.limit live.first live.turn live.made) (sym (is_fewer _ _ few)) ∙ last)
 
 -- ---- hanging up
-pub over_ends : (end : Driven) → IsOver end → MayEnd (Ends end) end
-over_ends (driven.NetFault failure) o = tt
-over_ends driven.WriteFault o = tt
-over_ends driven.Memory o = tt
-over_ends _ o = refl
-
-pub over_own : (end : Driven) → IsOver end → IsOwn end
-over_own (driven.NetFault failure) o = o
-over_own driven.WriteFault o = o
-over_own _ o = tt
+pub over_ends : (end : Driven) → IsOver end → MayEnd (Ends end) end × IsOwn end
+over_ends driven.Done o = (refl, tt)
+over_ends (driven.Spent turns) o = (refl, tt)
+over_ends (driven.Unreachable turns) o = (refl, tt)
+over_ends _ o = absurd o
 
 -- the run hangs up the sessions that are open, to end so
 pub record Hangs (config : DriveConfig) (before now : Shown) (saw : List Note → Type 0) (live : Live) (end : Driven)

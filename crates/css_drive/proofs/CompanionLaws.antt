@@ -1,13 +1,14 @@
 -- The laws of companions' runs.
-use Rattle.std.proofs.Common.{◌≡◌, ℕ, ◌≤◌, ◌<◌, arith, suc, ap, sym, ◌∙◌, subst, refl, Bool, true, false, cond}
-use Rattle.std.proofs.Common.{inl, inr, map, List, [], ◌∷◌, ◌++◌, length, drop, Option, Some, None, Result, Ok, Err}
+use Rattle.std.proofs.Common.{◌≡◌, ℕ, ◌≤◌, ◌<◌, arith, suc, ap, sym, ◌∙◌, subst, refl, Bool, true, false, cond, inl}
+use Rattle.std.proofs.Common.{inr, map, List, [], ◌∷◌, ◌++◌, length, drop, Option, Some, None, Result, Ok, Err, take}
 use Rattle.std.proofs.lemmas.Bool.{ltb-true, ltb-false}
-use Rattle.std.specs.Prelude.{◌&&◌}
+use Rattle.std.specs.Prelude.{◌&&◌, if◌then◌else◌, ◌||◌}
 use Rattle.css_model.specs.declared.Kind.{Kind}
 use Rattle.css_model.specs.declared.Kind.TheVariants as kind
 use Rattle.css_model.specs.declared.Why.{Why}
 use Rattle.css_model.specs.declared.Why.TheVariants as why
-use Rattle.css_model.specs.History.{Address, History, Clock, Slept}
+use Rattle.css_model.specs.History.{Address, History, Clock, Slept, Sent, Dialled, Heard, Closed, Gone, LandedAnswer}
+use Rattle.css_model.specs.History.{just_taken, request_in, answer_in, requests, landed_answers, possible_answers}
 use Rattle.css_address.specs.declared.fault.AddressFault.{AddressFault}
 use Rattle.css_cii.specs.declared.name.CiiName.{CiiName}
 use Rattle.css_outside.specs.Outsides.{sleep_entries}
@@ -23,14 +24,31 @@ use Rattle.css_drive.specs.CompanionDue.{from_hang_ups, from_cii, from_wc, from_
 use Rattle.css_drive.specs.CompanionDue.{from_ts_text, from_end, final, is_short, refusal, place, window_text}
 use Rattle.css_drive.specs.CompanionDue.{unless_refused, point_of, end_by, IsProperRun}
 use Rattle.css_drive.specs.CompanionLaws.{ReportsAreAsAsked, FollowersHear, HasHeard, EachHasHeard}
-use Rattle.css_drive.specs.CompanionReports.{due_reports, is_due, report_at}
-use Rattle.css_drive.specs.CompanionTurns.{first_turn}
+use Rattle.css_drive.specs.CompanionReports.{due_reports}
 use Rattle.css_drive.specs.CompanionRun.{after_all}
 use Rattle.css_follow.specs.Listening.{Listener, hearing, words_of}
-use Rattle.css_drive.specs.Proper.{Due, Now, Dial, Accept, TakeDatagram, TakeText, SendText, Ends}
-use Rattle.css_drive.specs.Proper.{MayAdd, Empty, More}
+use Rattle.css_drive.specs.Proper.{Due, Now, Dial, Accept, TakeDatagram, TakeText, SendText, Ends, MayAdd, Empty, More}
 use Rattle.css_drive.specs.declared.config.DriveConfig.{DriveConfig}
 use Rattle.css_drive.specs.declared.driven.Driven.TheVariants as driven
+use Rattle.std.specs.List.{list_any}
+use Rattle.std.specs.Option.{option_and_then, option_map, option_or, option_to_list}
+use Rattle.css_num.specs.declared.control.Control.{Control}
+use Rattle.css_model.specs.declared.Stamp.{Stamp}
+use Rattle.css_model.specs.declared.Message.{Message}
+use Rattle.css_model.specs.Wire.{is_same_stamp}
+use Rattle.css_span.specs.WallSpans.{wall_span}
+use Rattle.css_cii.specs.States.{empty}
+use Rattle.css_cii.specs.declared.state.State.{State}
+use Rattle.css_tsmsg.specs.Controls.{control_of}
+use Rattle.css_tsmsg.specs.declared.fault.TsFault.{TsFault}
+use Rattle.css_companion.specs.Contents.{next_number, state_after}
+use Rattle.css_companion.specs.Meanings.{kind_of, is_cii, is_ts, counted, merged_with, texts_of, state_of, control_by}
+use Rattle.css_companion.specs.Meanings.{is_closed}
+use Rattle.css_companion.specs.Printed.{line_of}
+use Rattle.css_companion.specs.Reports.{timing_of, report_by, assigned_by}
+use Rattle.css_companion.specs.TimelineRates.{rate_of}
+use Rattle.css_drive.specs.SameEvents.{Happening, Sleep, Asks, Lands, TellsCii, TellsTs, BeginsTs, EndsTs, landing}
+use Rattle.css_drive.specs.SameEvents.{text_of, end_of, with_happening, happenings, SameEventsAreReportedAlike}
 
 -- ---- followers
 -- one more report
@@ -132,9 +150,9 @@ module _ (short : Bool) where
   after_sending peer None rest v = v
   after_sending peer (Some text) rest v = record { so = tt }
 
-  asks : (o : Option ℕ) (bytes : List ℕ) → Fair short (send_to o bytes)
-  asks None bytes = record { so = tt }
-  asks (Some p) bytes = record { so = tt }
+  sends : (o : Option ℕ) (bytes : List ℕ) → Fair short (send_to o bytes)
+  sends None bytes = record { so = tt }
+  sends (Some p) bytes = record { so = tt }
 
   takes : Fair short TakeDatagram
   takes = record { so = tt }
@@ -163,7 +181,7 @@ again true true rest v = record { so = refl }
 again true false rest v = v
 again false left rest v = v
 
-ruleset fair = (either, after_text, after_dial, after_first, after_sending, asks, takes, reads, hangs, again)
+ruleset fair = (either, after_text, after_dial, after_first, after_sending, sends, takes, reads, hangs, again)
 
 point_fair : (config : DriveConfig) (h : History) (p : Point) → Fair (is_short config h) (due_at config p h)
 point_fair config h dues.Start = search fair depth 20
@@ -196,10 +214,11 @@ with_one false report reports n lt = omega (arith, lt)
 abbrev Within : DriveConfig → History → Type 0
 Within config h = length (due_reports config h) ≤ config.reports
 
-turn_within : (config : DriveConfig) (h : History) (reading : ℕ) → length (due_reports config h) < config.reports
-    → Within config (Clock why.Turn reading ∷ h)
-turn_within config h reading lt = with_one (is_due config.report_every reading (first_turn h) (length (due_reports
-    config h))) (report_at config h reading) (due_reports config h) config.reports lt
+turn_within : (config : DriveConfig) (h : History) (reading : ℕ) (slept : Bool)
+    → length (due_reports config h) < config.reports
+    → Within config (Clock why.Turn reading ∷ (sleep_entries slept ++ h))
+turn_within config h reading true lt = with_one _ _ _ _ lt
+turn_within config h reading false lt = with_one _ _ _ _ lt
 
 module _ (config : DriveConfig) (older : History) (w : Within config older) where
   put : (call entries : History) → call ≡ entries → Within config (entries ++ older) → Within config (call ++ older)
@@ -207,14 +226,9 @@ module _ (config : DriveConfig) (older : History) (w : Within config older) wher
 
   read : (y : Why) (reading : ℕ) (slept : Bool) → due config older ≡ Now y
       → Within config (Clock y reading ∷ (sleep_entries slept ++ older))
-  read why.Turn reading slept e = by slept
-    where
-      less : length (due_reports config older) < config.reports
-      less = ltb-true _ _ (subst (Verdict (is_short config older)) e (settled config older))
-
-      by : (b : Bool) → Within config (Clock why.Turn reading ∷ (sleep_entries b ++ older))
-      by true = turn_within config (Slept ∷ older) reading less
-      by false = turn_within config older reading less
+  read why.Turn reading slept e =
+      turn_within config older reading slept
+      (ltb-true _ _ (subst (Verdict (is_short config older)) e (settled config older)))
   read _ reading true e = w
   read _ reading false e = w
 
@@ -251,4 +265,101 @@ reports_as_asked config history some p =
         ltb-false (length (due_reports config history)) config.reports (subst (Verdict (is_short config history)) e
             (settled config history)),
       );
+    }
+
+-- ---- what is told alone
+-- what reports are made of
+record Known : Type 0 where
+  asks : List Stamp
+  landed : List LandedAnswer
+  texts : ℕ
+  state : State
+  control : Option (Result Control TsFault)
+  ended : Bool
+
+abbrev known_of : History → Known
+known_of h = record {
+  asks = requests h;
+  landed = landed_answers h;
+  texts = texts_of h;
+  state = state_of h;
+  control = control_by h;
+  ended = is_closed h;
+}
+
+-- ---- the same, as the happenings have it
+-- the answer that these bytes are, where these requests may still be answered
+abbrev awaited : List Stamp → List ℕ → Option Message
+awaited asks bytes = option_and_then (λ (m : Message).
+    if list_any (λ stamp. is_same_stamp stamp m.originate) (take 64 asks) then Some m else None) (answer_in bytes)
+
+abbrev after_it : Happening → Known → Known
+after_it Sleep x = record x { asks = []; landed = [] }
+after_it (Asks bytes) x =
+    record x { asks = option_to_list (option_map (λ (m : Message). m.originate) (request_in bytes)) ++ x.asks }
+after_it (Lands bytes reading) x = record x {
+  landed = option_to_list (option_map (λ m. record { message = m; reading = reading }) (awaited x.asks bytes))
+      ++ x.landed;
+}
+after_it (TellsCii bytes) x =
+    record x { texts = next_number x.texts; state = state_after (next_number x.texts) x.state bytes }
+after_it (TellsTs bytes) x = record x { control = Some (control_of bytes) }
+after_it BeginsTs x = record x { control = None; ended = false }
+after_it EndsTs x = record x { ended = true }
+
+abbrev known_in : List Happening → Known
+known_in [] = record { asks = []; landed = []; texts = 0; state = empty; control = None; ended = false }
+known_in (happening ∷ earlier) = after_it happening (known_in earlier)
+
+-- ---- entries that may be no happening
+landing_same : (taken : Option (List ℕ)) (reading : ℕ) (earlier : List Happening) (x : Known) → x ≡ known_in earlier
+    → record x {
+      landed = option_to_list (option_map (λ m. record { message = m; reading = reading }) (option_and_then
+          (λ (m : Message). if list_any (λ stamp. is_same_stamp stamp m.originate) (take 64 x.asks) then Some m
+          else None) (option_and_then answer_in taken))) ++ x.landed;
+    }
+    ≡ known_in (with_happening (landing taken reading) earlier)
+landing_same None reading earlier x e = e
+landing_same (Some bytes) reading earlier x e = ap (after_it (Lands bytes reading)) e
+
+text_same : (k : Option Kind) (bytes : List ℕ) (earlier : List Happening) (x : Known) → x ≡ known_in earlier
+    → record x {
+      texts = counted (if is_cii k then Some bytes else None) x.texts;
+      state = merged_with (if is_cii k then Some bytes else None) x.texts x.state;
+      control = option_or (option_map control_of (if is_ts k then Some bytes else None)) x.control;
+    }
+    ≡ known_in (with_happening (text_of k bytes) earlier)
+text_same (Some kind.Cii) bytes earlier x e = ap (after_it (TellsCii bytes)) e
+text_same (Some kind.Ts) bytes earlier x e = ap (after_it (TellsTs bytes)) e
+text_same _ bytes earlier x e = e
+
+end_same : (k : Option Kind) (earlier : List Happening) (x : Known) → x ≡ known_in earlier
+    → record x { ended = is_ts k || x.ended } ≡ known_in (with_happening (end_of k) earlier)
+end_same (Some kind.Ts) earlier x e = ap (after_it EndsTs) e
+end_same _ earlier x e = e
+
+known_same : (h : History) → known_of h ≡ known_in (happenings h)
+known_same [] = refl
+known_same (Slept ∷ older) = ap (after_it Sleep) (known_same older)
+known_same (Sent peer bytes ∷ older) = ap (after_it (Asks bytes)) (known_same older)
+known_same (Clock why.Land reading ∷ older) = landing_same (just_taken older) reading _ _ (known_same older)
+known_same (Heard peer bytes ∷ older) = text_same (kind_of peer older) bytes _ _ (known_same older)
+known_same (Closed peer ∷ older) = end_same (kind_of peer older) _ _ (known_same older)
+known_same (Gone peer ∷ older) = end_same (kind_of peer older) _ _ (known_same older)
+known_same (Dialled kind.Ts peer ∷ older) = ap (after_it BeginsTs) (known_same older)
+known_same (_ ∷ older) = known_same older
+
+-- ---- the report
+pub same_events : SameEventsAreReportedAlike
+same_events config live replayed reading e =
+    let own = config.companion.local in
+    let timing = λ (x : Known). timing_of x.control x.ended (rate_of config.companion.selector x.state.timelines) in
+    let same : known_of live ≡ known_of replayed = known_same live ∙ ap known_in e ∙ sym (known_same replayed) in
+    let report = ap (λ (x : Known).
+    report_by (wall_span own reading (possible_answers own x.landed)) (timing x)) same in
+    record {
+      report = report;
+      line = λ number position. ap (λ report. line_of number report position) report;
+      position = λ wall. ap (λ (x : Known). assigned_by (timing x) wall) same;
+      state = ap (λ (x : Known). x.state) same;
     }

@@ -1,5 +1,5 @@
 //! Single calls of a companion's run, of which its observer is told.
-ghost use Rattle.std.specs.Prelude.{◌≡◌, ◌≤◌, ◌∷◌, List, Option, None, Some, IfOk, IfErr, OnOk};
+ghost use Rattle.std.specs.Prelude.{◌≡◌, ◌≤◌, ◌∷◌, ◌++◌, List, MatchResult, Option, None, Some, IfOk, IfErr, OnOk};
 ghost use Rattle.css_outside.specs.Faults.{HasRisen};
 ghost use Rattle.css_outside.specs.declared.calls.Wrote.TheVariants.{Sent};
 ghost use Rattle.css_outside.specs.declared.fault.OutFault.{OutFault as Fault};
@@ -7,7 +7,7 @@ ghost use Rattle.css_model.specs.History.{Entry, History};
 ghost use Rattle.css_companion.specs.Steps.{IsEvent, IsEntryOf};
 ghost use Rattle.css_drive.specs.CompanionDue.{Point, due_at};
 ghost use Rattle.css_drive.specs.CompanionStanding.{Shown, shown, shown_of, IsEarly, Fails, Calls, HasDialled, HasRead};
-ghost use Rattle.css_drive.specs.CompanionStanding.{IsAt, Knows, LeadsFrom, Stays, SawMore, final_end};
+ghost use Rattle.css_drive.specs.CompanionStanding.{IsAt, Knows, LeadsFrom, Stays, final_end};
 ghost use Rattle.css_drive.specs.CompanionStanding.{facts_in, still, without, spoken};
 ghost use Rattle.css_drive.specs.Notes.{Note, Standpoint, Sees, dial_notes, slept_notes};
 ghost use Rattle.css_drive.specs.Proper.{SendText};
@@ -65,7 +65,9 @@ pub fn try_dial<O: Outside, W: Observes>(
     ensures told { Calls (shown (O.told outside.old) (O.counts outside.old))
         (shown (O.told outside.new) (O.counts outside.new)) (W.over observer.new)
         (λ old new. HasDialled old new kind to.now) result }
-    ensures saw { (from : Standpoint) → SawMore W.saw observer.old observer.new (dial_notes from kind) result }
+    ensures saw { (from : Standpoint) → (started : W) → (notes : List Note) → W.saw started observer.old notes
+        → MatchResult result (λ tried. W.saw started observer.new (dial_notes from kind tried ++ notes))
+        (λ _. W.saw started observer.new notes) }
     ensures last { (O.counts outside.new).last ≡ (O.counts outside.old).last }
     ensures dials { (O.counts outside.old).dial_faults ≤ (O.counts outside.new).dial_faults }
     ensures tried { IfOk result (λ tried. tried ≡ None
