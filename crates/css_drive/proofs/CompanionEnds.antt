@@ -8,7 +8,6 @@ use Rattle.css_model.specs.declared.Kind.TheVariants as kind
 use Rattle.css_model.specs.declared.Why.TheVariants as why
 use Rattle.css_model.specs.Explains.{IsLawful}
 use Rattle.css_model.specs.History.{Clock, Dialled, HungUp, History}
-use Rattle.css_outside.specs.Limits as limits
 use Rattle.css_outside.specs.Limits.{most_turns, IsLimit}
 use Rattle.css_outside.specs.declared.limit.Limit.{Limit}
 use Rattle.css_outside.specs.declared.limit.Limit.TheVariants as limit
@@ -32,91 +31,49 @@ use Rattle.css_drive.proofs.CompanionSteps.{IsOwn, told_more, peers_later, stand
 use Rattle.css_drive.proofs.CompanionCalls as calls
 
 -- ---- a turn
--- what a turn's reading makes of the facts, and its notes, where no report is due and where one is
+-- what a turn's reading makes of the facts, and its notes, where a report is due and where none is
 module _ (config : DriveConfig) (history : History) (live : Live) (reading : ℕ)
-    (f : facts_of config history ≡ facts_in live) where
-  begun : ℕ → List Report → Facts
-  begun first reports = record (facts_of config history) {
-    first = Some first;
-    turn = Some reading;
-    made = turns history + 1;
-    reported = length reports;
-  }
+    (f : facts_of config history ≡ facts_in live) (due : Bool)
+    (e : is_due config.report_every reading live.first live.reported ≡ due) where
+  abbrev begun : Facts → ℕ → ℕ → Facts
+  begun x first reported =
+      record x { first = Some first; turn = Some reading; made = x.made + 1; reported = reported }
 
-  abbrev made : Bool → List Report
-  made now = cond now (report_at config history reading ∷ due_reports config history) (due_reports config history)
+  abbrev told : Bool → ℕ → Report → List Note → List Note
+  told now number report notes =
+      let turn = Happened (standpoint config history) (Turn reading) ∷ notes in
+      cond now (Reported (standpoint config history) number report ∷ turn) turn
 
-  abbrev told : Bool → List Note
-  told now =
-      let turn = Happened (standpoint config history) (Turn reading) ∷ noted config history in
-      cond now (Reported (standpoint config history) (length (due_reports config history) + 1)
-      (report_at config history reading) ∷ turn) turn
+  now_due : is_due config.report_every reading (first_turn history) (length (due_reports config history)) ≡ due
+  now_due = ap {A = Facts} (λ x. is_due config.report_every reading x.first x.reported) f ∙ e
 
-  is : (now : Bool) → is_due config.report_every reading live.first live.reported ≡ now
-      → is_due config.report_every reading (first_turn history) (length (due_reports config history)) ≡ now
-  is now e = ap {A = Facts} (λ x. is_due config.report_every reading x.first x.reported) f ∙ e
-
-  facts_so : (now : Bool) → is_due config.report_every reading live.first live.reported ≡ now → (first : ℕ)
-      → first ≡ unwrap_or live.first reading
-      → facts_of config (Clock why.Turn reading ∷ history) ≡ begun first (made now)
-  unfolding begun
-  facts_so now e first same =
-      ap (λ b. begun (unwrap_or (first_turn history) reading) (made b)) (is now e)
-      ∙ ap (λ u. begun u (made now)) (ap {A = Facts} (λ x. unwrap_or x.first reading) f ∙ sym same)
-
-  pub turned_facts : is_due config.report_every reading live.first live.reported ≡ false → (first : ℕ)
-      → first ≡ unwrap_or live.first reading
+  pub begun_facts : (first : ℕ) → first ≡ unwrap_or live.first reading
       → facts_of config (Clock why.Turn reading ∷ history)
-      ≡ record (facts_in live) { first = Some first; turn = Some reading; made = live.made + 1 }
-  unfolding begun
-  turned_facts e first same =
-      facts_so false e first same
-      ∙ ap {A = Facts} (λ x. record x { first = Some first; turn = Some reading; made = x.made + 1 }) f
+      ≡ begun (facts_in live) first (cond due (live.reported + 1) live.reported)
+  begun_facts first same =
+      ap (λ b. begun (facts_of config history) (unwrap_or (first_turn history) reading)
+      (length (cond b (report_at config history reading ∷ due_reports config history) (due_reports config history))))
+      now_due
+      ∙ ap (begun (facts_of config history) (unwrap_or (first_turn history) reading)) (count due)
+      ∙ ap {A = Facts} (λ x. begun x (unwrap_or x.first reading) (cond due (x.reported + 1) x.reported)) f
+      ∙ ap (λ u. begun (facts_in live) u (cond due (live.reported + 1) live.reported)) (sym same)
+    where
+      count : (b : Bool) → length (cond b (report_at config history reading ∷ due_reports config history)
+          (due_reports config history))
+          ≡ cond b (length (due_reports config history) + 1) (length (due_reports config history))
+      count true = sym (add-one (length (due_reports config history)))
+      count false = refl
 
-  pub reported_facts : is_due config.report_every reading live.first live.reported ≡ true → (first : ℕ)
-      → first ≡ unwrap_or live.first reading
-      → facts_of config (Clock why.Turn reading ∷ history) ≡ record (facts_in live) {
-        first = Some first;
-        turn = Some reading;
-        made = live.made + 1;
-        reported = live.reported + 1;
-      }
-  unfolding begun
-  reported_facts e first same =
-      facts_so true e first same
-      ∙ ap (λ n. record (facts_of config history) {
-        first = Some first;
-        turn = Some reading;
-        made = turns history + 1;
-        reported = n;
-      }) (sym (add-one (length (due_reports config history))))
-      ∙ ap {A = Facts} (λ x. record x {
-        first = Some first;
-        turn = Some reading;
-        made = x.made + 1;
-        reported = x.reported + 1;
-      }) f
-
-  pub turned_notes : is_due config.report_every reading live.first live.reported ≡ false → (notes : List Note)
-      → noted config history ≡ notes
-      → noted config (Clock why.Turn reading ∷ history)
-      ≡ Happened (standpoint config history) (Turn reading) ∷ notes
-  turned_notes e notes m = ap told (is false e) ∙ ap (λ x. Happened (standpoint config history) (Turn reading) ∷ x) m
-
-  pub reported_notes : is_due config.report_every reading live.first live.reported ≡ true → (notes : List Note)
-      → noted config history ≡ notes → (report : Report) → report ≡ report_at config history reading
-      → noted config (Clock why.Turn reading ∷ history)
-      ≡ Reported (standpoint config history) (live.reported + 1) report
-      ∷ (Happened (standpoint config history) (Turn reading) ∷ notes)
-  reported_notes e notes m report so =
-      ap told (is true e)
-      ∙ ap (λ n. Reported (standpoint config history) (n + 1) (report_at config history reading)
-      ∷ (Happened (standpoint config history) (Turn reading) ∷ noted config history))
+  pub begun_notes : (notes : List Note) → noted config history ≡ notes → (report : Report)
+      → report ≡ report_at config history reading
+      → noted config (Clock why.Turn reading ∷ history) ≡ told due (live.reported + 1) report notes
+  begun_notes notes m report so =
+      ap (λ b. told b (length (due_reports config history) + 1) (report_at config history reading)
+      (noted config history)) now_due
+      ∙ ap (λ n. told due (n + 1) (report_at config history reading) (noted config history))
       (ap {A = Facts} (λ x. x.reported) f)
-      ∙ ap (λ x. Reported (standpoint config history) (live.reported + 1) x
-      ∷ (Happened (standpoint config history) (Turn reading) ∷ noted config history)) (sym so)
-      ∙ ap (λ x. Reported (standpoint config history) (live.reported + 1) report
-      ∷ (Happened (standpoint config history) (Turn reading) ∷ x)) m
+      ∙ ap (λ x. told due (live.reported + 1) x (noted config history)) (sym so)
+      ∙ ap (told due (live.reported + 1) report) m
 
 -- ---- the headline
 pub keeps_promises : (config : DriveConfig) (history : History) → IsLawful history → KeepsPromises config history
@@ -129,22 +86,19 @@ keeps_promises config (entry ∷ older) lawful =
     promise None l = tt
     promise (Some r) l = headline.headline config.companion.local config.companion.selector older r l
 
+or_here : (b : Bool) → true ≡ (b || true)
+or_here true = refl
+or_here false = refl
+
 -- whether any dial succeeded
 any_is : (h : History) → any_dialled h ≡ (is_some (dialled kind.Cii h) || (is_some (dialled kind.Wc h) || is_some
     (dialled kind.Ts h)))
 any_is [] = refl
 any_is (Dialled kind.Cii p ∷ h) = refl
-any_is (Dialled kind.Wc p ∷ h) = by (is_some (dialled kind.Cii h))
-  where
-    by : (b : Bool) → true ≡ (b || true)
-    by true = refl
-    by false = refl
-any_is (Dialled kind.Ts p ∷ h) = by (is_some (dialled kind.Cii h)) (is_some (dialled kind.Wc h))
-  where
-    by : (a b : Bool) → true ≡ (a || (b || true))
-    by true b = refl
-    by false true = refl
-    by false false = refl
+any_is (Dialled kind.Wc p ∷ h) = or_here (is_some (dialled kind.Cii h))
+any_is (Dialled kind.Ts p ∷ h) =
+    or_here (is_some (dialled kind.Cii h))
+    ∙ ap (λ b. is_some (dialled kind.Cii h) || b) (or_here (is_some (dialled kind.Wc h)))
 any_is (_ ∷ h) = any_is h
 
 ending_over : (reports : ℕ) (facts : Facts) → IsOver (ending_of reports facts)
@@ -168,15 +122,17 @@ none_made (entry ∷ older) e = by (turn_at entry) (none_made older) e
     by (Some r) below e = absurd (cc)
 
 -- ---- limits
+-- the two parts of a test
+pub both : (a b : Bool) → (a && b) ≡ true → (a ≡ true) × (b ≡ true)
+both true b e = (refl, e)
+both false b e = absurd (cc)
+
 -- where another turn follows, fewer were made than 2^40
 pub below_most : (l : Limit) (first turn : Option ℕ) (made : ℕ) → IsLimit l → goes_on l first turn made ≡ true
     → made < 1099511627776
-below_most l first turn made r e = by l r (ltb-true made (most_turns l) (left (nat_lt made (most_turns l)) e))
+below_most l first turn made r e =
+    by l r (ltb-true made (most_turns l) (both (nat_lt made (most_turns l)) (not (is_late l first turn)) e).0)
   where
-    left : (a : Bool) → (a && not (is_late l first turn)) ≡ true → a ≡ true
-    left true e = refl
-    left false e = e
-
     by : (l : Limit) → IsLimit l → made < most_turns l → made < 1099511627776
     by (limit.Turns n) r lt = omega (arith, r.1, lt)
     by (limit.Seconds n) r lt = lt
@@ -189,11 +145,9 @@ first_goes_on (limit.Seconds n) turn r e = absurd (cc)
 -- the first turn is never the last by its time
 pub never_late : (l : Limit) (first turn : Option ℕ) → IsLimit l → first ≡ turn → is_late l first turn ≡ true → ⊥
 never_late l None turn r e late = absurd (cc)
-never_late l (Some reading) turn r e late = by l r (ap (λ o. is_late l (Some reading) o) e ∙ late)
-  where
-    by : (l : Limit) → IsLimit l → limits.is_over l reading reading ≡ true → ⊥
-    by (limit.Turns n) r e = absurd (cc)
-    by (limit.Seconds n) r e = grind (arith, common_steps, r.0, e)
+never_late (limit.Turns n) (Some reading) turn r e late = absurd (cc)
+never_late (limit.Seconds n) (Some reading) turn r e late =
+    grind (arith, common_steps, r.0, ap (λ o. is_late (limit.Seconds n) (Some reading) o) e ∙ late)
 
 -- ---- whether the run goes on
 pub is_fewer : (n m : ℕ) → n < m → nat_lt n m ≡ true
@@ -201,11 +155,6 @@ is_fewer n m lt = grind (arith, common_steps, lt)
 
 pub is_no_fewer : (n m : ℕ) → m ≤ n → nat_lt n m ≡ false
 is_no_fewer n m le = grind (arith, common_steps, le)
-
--- the two parts of a test
-pub both : (a b : Bool) → (a && b) ≡ true → (a ≡ true) × (b ≡ true)
-both true b e = (refl, e)
-both false b e = absurd (cc)
 
 module _ {config : DriveConfig} {before now : Shown} {saw : List Note → Type 0} {live : Live} {history : History}
     (s : Stands config before now saw live history) where
@@ -251,16 +200,11 @@ module _ {config : DriveConfig} {before now : Shown} {saw : List Note → Type 0
       ∙ ap (λ b. b && goes_on config.limit live.first live.turn live.made) (sym (is_fewer _ _ few)) ∙ last)
 
 -- ---- hanging up
-pub over_ends : (end : Driven) → IsOver end → MayEnd (Ends end) end
-over_ends (driven.NetFault failure) o = tt
-over_ends driven.WriteFault o = tt
-over_ends driven.Memory o = tt
-over_ends _ o = refl
-
-pub over_own : (end : Driven) → IsOver end → IsOwn end
-over_own (driven.NetFault failure) o = o
-over_own driven.WriteFault o = o
-over_own _ o = tt
+pub over_ends : (end : Driven) → IsOver end → MayEnd (Ends end) end × IsOwn end
+over_ends driven.Done o = (refl, tt)
+over_ends (driven.Spent turns) o = (refl, tt)
+over_ends (driven.Unreachable turns) o = (refl, tt)
+over_ends _ o = absurd o
 
 -- the run hangs up the sessions that are open, to end so
 pub record Hangs (config : DriveConfig) (before now : Shown) (saw : List Note → Type 0) (live : Live) (end : Driven)

@@ -1,23 +1,18 @@
 -- The laws of companions' runs.
-use Rattle.std.proofs.Common.{◌≡◌, ℕ, ◌≤◌, ◌<◌, arith, suc, ap, sym, ◌∙◌, subst, refl, Bool, true, false, cond}
-use Rattle.std.proofs.Common.{inl, inr, map, List, [], ◌∷◌, ◌++◌, length, drop, Option, Some, None, Result, Ok, Err}
+use Rattle.std.proofs.Common.{◌≡◌, ℕ, ◌≤◌, ◌<◌, arith, suc, ap, sym, ◌∙◌, subst, refl, Bool, true, false, cond, inl}
+use Rattle.std.proofs.Common.{inr, map, List, [], ◌∷◌, ◌++◌, length, drop, Option, Some, None, Result, Ok, Err, take}
 use Rattle.std.proofs.lemmas.Bool.{ltb-true, ltb-false}
-use Rattle.std.specs.Prelude.{◌&&◌, not, is_some}
+use Rattle.std.specs.Prelude.{◌&&◌, if◌then◌else◌, ◌||◌}
 use Rattle.css_model.specs.declared.Kind.{Kind}
 use Rattle.css_model.specs.declared.Kind.TheVariants as kind
 use Rattle.css_model.specs.declared.Why.{Why}
 use Rattle.css_model.specs.declared.Why.TheVariants as why
-use Rattle.css_model.specs.History.{Address, History, Clock, Slept}
+use Rattle.css_model.specs.History.{Address, History, Clock, Slept, Sent, Dialled, Heard, Closed, Gone, LandedAnswer}
+use Rattle.css_model.specs.History.{just_taken, request_in, answer_in, requests, landed_answers, possible_answers}
 use Rattle.css_address.specs.declared.fault.AddressFault.{AddressFault}
 use Rattle.css_cii.specs.declared.name.CiiName.{CiiName}
-use Rattle.css_cii.specs.declared.name.CiiName.TheVariants.{WcUrl, TsUrl}
-use Rattle.css_model.specs.Wire.{encoded, request_at}
-use Rattle.css_companion.specs.Meanings.{kind_of, is_ts, state_of}
-use Rattle.std.specs.Option.{option_map}
-use Rattle.css_outside.specs.Outsides.{sleep_entries, opening_entries, datagram_entries, heard_entries, wrote_entries}
-use Rattle.css_outside.specs.declared.calls.Heard.{Heard as SessionHeard}
+use Rattle.css_outside.specs.Outsides.{sleep_entries}
 use Rattle.css_outside.specs.declared.calls.Heard.TheVariants as heard
-use Rattle.css_outside.specs.declared.calls.Wrote.{Wrote as Outcome}
 use Rattle.css_outside.specs.declared.calls.Wrote.TheVariants as outcome
 use Rattle.css_companion.specs.declared.fault.CompanionFault.{CompanionFault}
 use Rattle.css_companion.specs.declared.fault.CompanionFault.TheVariants as fault
@@ -29,15 +24,31 @@ use Rattle.css_drive.specs.CompanionDue.{from_hang_ups, from_cii, from_wc, from_
 use Rattle.css_drive.specs.CompanionDue.{from_ts_text, from_end, final, is_short, refusal, place, window_text}
 use Rattle.css_drive.specs.CompanionDue.{unless_refused, point_of, end_by, IsProperRun}
 use Rattle.css_drive.specs.CompanionLaws.{ReportsAreAsAsked, FollowersHear, HasHeard, EachHasHeard}
-use Rattle.css_drive.specs.CompanionReports.{due_reports, is_due, report_at}
-use Rattle.css_drive.specs.CompanionTurns.{first_turn, this_turn, turns, dialled, opened, any_dialled}
-use Rattle.css_drive.specs.CompanionTurns.{asked_turn, is_asking, is_late, goes_on}
+use Rattle.css_drive.specs.CompanionReports.{due_reports}
 use Rattle.css_drive.specs.CompanionRun.{after_all}
 use Rattle.css_follow.specs.Listening.{Listener, hearing, words_of}
-use Rattle.css_drive.specs.Proper.{Due, Now, Dial, Accept, TakeDatagram, TakeText, SendText, Ends}
-use Rattle.css_drive.specs.Proper.{MayAdd, Empty, More}
+use Rattle.css_drive.specs.Proper.{Due, Now, Dial, Accept, TakeDatagram, TakeText, SendText, Ends, MayAdd, Empty, More}
 use Rattle.css_drive.specs.declared.config.DriveConfig.{DriveConfig}
 use Rattle.css_drive.specs.declared.driven.Driven.TheVariants as driven
+use Rattle.std.specs.List.{list_any}
+use Rattle.std.specs.Option.{option_and_then, option_map, option_or, option_to_list}
+use Rattle.css_num.specs.declared.control.Control.{Control}
+use Rattle.css_model.specs.declared.Stamp.{Stamp}
+use Rattle.css_model.specs.declared.Message.{Message}
+use Rattle.css_model.specs.Wire.{is_same_stamp}
+use Rattle.css_span.specs.WallSpans.{wall_span}
+use Rattle.css_cii.specs.States.{empty}
+use Rattle.css_cii.specs.declared.state.State.{State}
+use Rattle.css_tsmsg.specs.Controls.{control_of}
+use Rattle.css_tsmsg.specs.declared.fault.TsFault.{TsFault}
+use Rattle.css_companion.specs.Contents.{next_number, state_after}
+use Rattle.css_companion.specs.Meanings.{kind_of, is_cii, is_ts, counted, merged_with, texts_of, state_of, control_by}
+use Rattle.css_companion.specs.Meanings.{is_closed}
+use Rattle.css_companion.specs.Printed.{line_of}
+use Rattle.css_companion.specs.Reports.{timing_of, report_by, assigned_by}
+use Rattle.css_companion.specs.TimelineRates.{rate_of}
+use Rattle.css_drive.specs.SameEvents.{Happening, Sleep, Asks, Lands, TellsCii, TellsTs, BeginsTs, EndsTs, landing}
+use Rattle.css_drive.specs.SameEvents.{text_of, end_of, with_happening, happenings, SameEventsAreReportedAlike}
 
 -- ---- followers
 -- one more report
@@ -111,113 +122,88 @@ Verdict short (Now why.Turn) = short ≡ true
 Verdict short (Ends driven.Done) = short ≡ false
 Verdict short _ = Unit {0}
 
+record Fair (short : Bool) (due : Due) : Type 0 where
+  so : Verdict short due
+
 module _ (short : Bool) where
-  either : (b : Bool) (x y : Due) → Verdict short x → Verdict short y → Verdict short (cond b x y)
+  either : (b : Bool) (x y : Due) → Fair short x → Fair short y → Fair short (cond b x y)
   either true x y v w = v
   either false x y v w = w
 
-  after_text : (o : Option ℕ) (rest : Due) → Verdict short rest → Verdict short (take_text o rest)
+  after_text : (o : Option ℕ) (rest : Due) → Fair short rest → Fair short (take_text o rest)
   after_text None rest v = v
-  after_text (Some p) rest v = tt
+  after_text (Some p) rest v = record { so = tt }
 
   after_dial : (o : Option ℕ) (k : Kind) (property : CiiName) (told : Option (Result Address AddressFault))
-      (rest : Due) → Verdict short rest → Verdict short (dial_to o k property told rest)
+      (rest : Due) → Fair short rest → Fair short (dial_to o k property told rest)
   after_dial (Some p) k property told rest v = v
   after_dial None k property None rest v = v
-  after_dial None k property (Some (Err bad)) rest v = tt
-  after_dial None k property (Some (Ok to)) rest v = tt
+  after_dial None k property (Some (Err bad)) rest v = record { so = tt }
+  after_dial None k property (Some (Ok to)) rest v = record { so = tt }
 
-  after_first : (o : Option ℕ) (to : Address) (rest : Due) → Verdict short rest → Verdict short (dial_first o to rest)
+  after_first : (o : Option ℕ) (to : Address) (rest : Due) → Fair short rest → Fair short (dial_first o to rest)
   after_first (Some p) to rest v = v
-  after_first None to rest v = tt
+  after_first None to rest v = record { so = tt }
 
-  after_sending : (peer : ℕ) (o : Option (List ℕ)) (rest : Due) → Verdict short rest
-      → Verdict short (sending peer o rest)
+  after_sending : (peer : ℕ) (o : Option (List ℕ)) (rest : Due) → Fair short rest
+      → Fair short (sending peer o rest)
   after_sending peer None rest v = v
-  after_sending peer (Some text) rest v = tt
+  after_sending peer (Some text) rest v = record { so = tt }
 
-  asks : (o : Option ℕ) (bytes : List ℕ) → Verdict short (send_to o bytes)
-  asks None bytes = tt
-  asks (Some p) bytes = tt
+  sends : (o : Option ℕ) (bytes : List ℕ) → Fair short (send_to o bytes)
+  sends None bytes = record { so = tt }
+  sends (Some p) bytes = record { so = tt }
 
-  refused : (f : CompanionFault) → Verdict short (Ends (end_by f))
-  refused (fault.BadCii number reason) = tt
-  refused (fault.Moved property old new) = tt
-  refused fault.Memory = tt
+  takes : Fair short TakeDatagram
+  takes = record { so = tt }
+
+  reads : Fair short (Now why.Ask)
+  reads = record { so = tt }
+
+  refused : (f : CompanionFault) → Fair short (Ends (end_by f))
+  refused (fault.BadCii number reason) = record { so = tt }
+  refused (fault.Moved property old new) = record { so = tt }
+  refused fault.Memory = record { so = tt }
 
 -- the end of a run is `Done` only where no reports are to be made
 hangs : (short any : Bool) (n : ℕ) (a b : Option ℕ)
-    → Verdict short (hang_up a (hang_up b (Ends (cond short (cond any (driven.Spent n) (driven.Unreachable n))
+    → Fair short (hang_up a (hang_up b (Ends (cond short (cond any (driven.Spent n) (driven.Unreachable n))
     driven.Done))))
-hangs short any n (Some p) b = tt
-hangs short any n None (Some q) = tt
-hangs true true n None None = tt
-hangs true false n None None = tt
-hangs false any n None None = refl
+hangs short any n (Some p) b = record { so = tt }
+hangs short any n None (Some q) = record { so = tt }
+hangs true true n None None = record { so = tt }
+hangs true false n None None = record { so = tt }
+hangs false any n None None = record { so = refl }
 
 -- after the end of a turn
-again : (short left : Bool) (rest : Due) → Verdict short rest → Verdict short (cond (short && left) (Now why.Turn) rest)
-again true true rest v = refl
+again : (short left : Bool) (rest : Due) → Fair short rest → Fair short (cond (short && left) (Now why.Turn) rest)
+again true true rest v = record { so = refl }
 again true false rest v = v
 again false left rest v = v
 
-module _ (config : DriveConfig) (h : History) where
-  hang_ups : Verdict (is_short config h) (from_hang_ups (final config h) h)
-  hang_ups = hangs (is_short config h) (any_dialled h) (turns h) (opened kind.Cii h) (opened kind.Ts h)
+ruleset fair = (either, after_text, after_dial, after_first, after_sending, sends, takes, reads, hangs, again)
 
-  end_turn : Verdict (is_short config h) (from_end config h)
-  end_turn = again (is_short config h) (goes_on config.limit (first_turn h) (this_turn h) (turns h)) _ hang_ups
+point_fair : (config : DriveConfig) (h : History) (p : Point) → Fair (is_short config h) (due_at config p h)
+point_fair config h dues.Start = search fair depth 20
+point_fair config h dues.Begun = search fair depth 20
+point_fair config h (dues.Called kind.Cii) = search fair depth 20
+point_fair config h (dues.Called kind.Wc) = search fair depth 20
+point_fair config h (dues.Called kind.Ts) = search fair depth 20
+point_fair config h (dues.Connected peer) = record { so = tt }
+point_fair config h (dues.SetUp peer) = search fair depth 20
+point_fair config h (dues.Asking reading) = search fair depth 20
+point_fair config h dues.Requested = search fair depth 20
+point_fair config h dues.Arrived = record { so = tt }
+point_fair config h dues.Received = search fair depth 20
+point_fair config h (dues.HeardFrom peer) = search fair depth 20
+point_fair config h dues.Over = search fair depth 20
 
-  ts_turn : Verdict (is_short config h) (from_ts_text config h)
-  ts_turn = after_text (is_short config h) (opened kind.Ts h) (from_end config h) end_turn
-
-  cii_turn : Verdict (is_short config h) (from_cii_text config h)
-  cii_turn = after_text (is_short config h) (opened kind.Cii h) (from_ts_text config h) ts_turn
-
-  take_turn : Verdict (is_short config h) (from_take config h)
-  take_turn = either (is_short config h) (is_some (dialled kind.Wc h)) TakeDatagram (from_cii_text config h) tt cii_turn
-
-  ask_turn : Verdict (is_short config h) (from_ask config h)
-  ask_turn = either (is_short config h) (is_some (dialled kind.Wc h) && is_asking config.ask_every (this_turn h)
-      (asked_turn h)) (Now why.Ask) (from_take config h) tt take_turn
-
-  dial_ts_turn : Verdict (is_short config h) (from_ts config h)
-  dial_ts_turn = after_dial (is_short config h) (dialled kind.Ts h) kind.Ts TsUrl (place kind.Ts (state_of h).ts_url)
-      (from_ask config h) ask_turn
-
-  dial_wc_turn : Verdict (is_short config h) (from_wc config h)
-  dial_wc_turn = after_dial (is_short config h) (dialled kind.Wc h) kind.Wc WcUrl (place kind.Wc (state_of h).wc_url)
-      (from_ts config h) dial_ts_turn
-
-  dial_cii_turn : Verdict (is_short config h) (from_cii config h)
-  dial_cii_turn = after_first (is_short config h) (dialled kind.Cii h) config.cii (from_wc config h) dial_wc_turn
-
-  point_turn : (p : Point) → Verdict (is_short config h) (due_at config p h)
-  point_turn dues.Start = end_turn
-  point_turn dues.Begun =
-      either (is_short config h) (is_short config h && not (is_late config.limit (first_turn h) (this_turn h)))
-      (from_cii config h) (from_end config h) dial_cii_turn end_turn
-  point_turn (dues.Called kind.Cii) = dial_wc_turn
-  point_turn (dues.Called kind.Wc) = dial_ts_turn
-  point_turn (dues.Called kind.Ts) = ask_turn
-  point_turn (dues.Connected peer) = tt
-  point_turn (dues.SetUp peer) =
-      after_sending (is_short config h) peer (option_map window_text config.present) (from_ask config h) ask_turn
-  point_turn (dues.Asking reading) =
-      asks (is_short config h) (dialled kind.Wc h) (encoded (request_at reading))
-  point_turn dues.Requested = take_turn
-  point_turn dues.Arrived = tt
-  point_turn dues.Received = cii_turn
-  point_turn (dues.HeardFrom peer) =
-      either (is_short config h) (is_ts (kind_of peer h)) (from_end config h) (from_ts_text config h) end_turn ts_turn
-  point_turn dues.Over = hang_ups
-
-  settled : Verdict (is_short config h) (due config h)
-  settled = by (refusal h)
-    where
-      by : (r : Option CompanionFault) → Verdict (is_short config h) (unless_refused r (due_at config (point_of h) h))
-      by None = point_turn (point_of h)
-      by (Some f) = refused (is_short config h) f
+settled : (config : DriveConfig) (h : History) → Verdict (is_short config h) (due config h)
+settled config h = (by (refusal h)).so
+  where
+    by : (r : Option CompanionFault) → Fair (is_short config h) (unless_refused r (due_at config (point_of h) h))
+    by None = point_fair config h (point_of h)
+    by (Some f) = refused (is_short config h) f
 
 -- one report more at most, and that in a turn
 with_one : (b : Bool) (report : Report) (reports : List Report) (n : ℕ) → length reports < n
@@ -228,10 +214,11 @@ with_one false report reports n lt = omega (arith, lt)
 abbrev Within : DriveConfig → History → Type 0
 Within config h = length (due_reports config h) ≤ config.reports
 
-turn_within : (config : DriveConfig) (h : History) (reading : ℕ) → length (due_reports config h) < config.reports
-    → Within config (Clock why.Turn reading ∷ h)
-turn_within config h reading lt = with_one (is_due config.report_every reading (first_turn h) (length (due_reports
-    config h))) (report_at config h reading) (due_reports config h) config.reports lt
+turn_within : (config : DriveConfig) (h : History) (reading : ℕ) (slept : Bool)
+    → length (due_reports config h) < config.reports
+    → Within config (Clock why.Turn reading ∷ (sleep_entries slept ++ h))
+turn_within config h reading true lt = with_one _ _ _ _ lt
+turn_within config h reading false lt = with_one _ _ _ _ lt
 
 module _ (config : DriveConfig) (older : History) (w : Within config older) where
   put : (call entries : History) → call ≡ entries → Within config (entries ++ older) → Within config (call ++ older)
@@ -239,42 +226,25 @@ module _ (config : DriveConfig) (older : History) (w : Within config older) wher
 
   read : (y : Why) (reading : ℕ) (slept : Bool) → due config older ≡ Now y
       → Within config (Clock y reading ∷ (sleep_entries slept ++ older))
-  read why.Turn reading slept e = by slept
-    where
-      less : length (due_reports config older) < config.reports
-      less = ltb-true _ _ (subst (Verdict (is_short config older)) e (settled config older))
-
-      by : (b : Bool) → Within config (Clock why.Turn reading ∷ (sleep_entries b ++ older))
-      by true = turn_within config (Slept ∷ older) reading less
-      by false = turn_within config older reading less
+  read why.Turn reading slept e =
+      turn_within config older reading slept
+      (ltb-true _ _ (subst (Verdict (is_short config older)) e (settled config older)))
   read _ reading true e = w
   read _ reading false e = w
-
-  opening : (came : Option (ℕ × Kind)) → Within config (opening_entries came ++ older)
-  opening None = w
-  opening (Some (peer, k)) = w
-
-  taking : (room : List ℕ) (came : Option (ℕ × ℕ)) → Within config (datagram_entries room came ++ older)
-  taking room None = w
-  taking room (Some (peer, count)) = w
-
-  hearing_text : (peer : ℕ) (said : SessionHeard) → Within config (heard_entries peer said ++ older)
-  hearing_text peer heard.Quiet = w
-  hearing_text peer (heard.Text text) = w
-  hearing_text peer heard.Closed = w
-
-  sending_text : (peer : ℕ) (bytes : List ℕ) (sent : Outcome) → Within config (wrote_entries peer bytes sent ++ older)
-  sending_text peer bytes outcome.Sent = w
-  sending_text peer bytes outcome.Gone = w
 
   call_within : (d : Due) → due config older ≡ d → (call : History) → MayAdd d call → Within config (call ++ older)
   call_within (Now y) e call m = put call _ m.1 (read y m.0.reading m.0.slept e)
   call_within (Dial k to) e call (inl m) = put call _ m.1 w
   call_within (Dial k to) e call (inr m) = put call _ m w
-  call_within Accept e call m = put call _ m.1 (opening m.0)
-  call_within TakeDatagram e call m = put call _ m.2 (taking m.0 m.1)
-  call_within (TakeText peer) e call m = put call _ m.1 (hearing_text peer m.0)
-  call_within (SendText peer bytes) e call m = put call _ m.1 (sending_text peer bytes m.0)
+  call_within Accept e call (None, is) = put call _ is w
+  call_within Accept e call (Some (peer, k), is) = put call _ is w
+  call_within TakeDatagram e call (room, None, is) = put call _ is w
+  call_within TakeDatagram e call (room, Some (peer, count), is) = put call _ is w
+  call_within (TakeText peer) e call (heard.Quiet, is) = put call _ is w
+  call_within (TakeText peer) e call (heard.Text text, is) = put call _ is w
+  call_within (TakeText peer) e call (heard.Closed, is) = put call _ is w
+  call_within (SendText peer bytes) e call (outcome.Sent, is) = put call _ is w
+  call_within (SendText peer bytes) e call (outcome.Gone, is) = put call _ is w
   call_within (Ends end) e call m = absurd m
   call_within _ e call m = put call _ m w
 
@@ -295,4 +265,101 @@ reports_as_asked config history some p =
         ltb-false (length (due_reports config history)) config.reports (subst (Verdict (is_short config history)) e
             (settled config history)),
       );
+    }
+
+-- ---- what is told alone
+-- what reports are made of
+record Known : Type 0 where
+  asks : List Stamp
+  landed : List LandedAnswer
+  texts : ℕ
+  state : State
+  control : Option (Result Control TsFault)
+  ended : Bool
+
+abbrev known_of : History → Known
+known_of h = record {
+  asks = requests h;
+  landed = landed_answers h;
+  texts = texts_of h;
+  state = state_of h;
+  control = control_by h;
+  ended = is_closed h;
+}
+
+-- ---- the same, as the happenings have it
+-- the answer that these bytes are, where these requests may still be answered
+abbrev awaited : List Stamp → List ℕ → Option Message
+awaited asks bytes = option_and_then (λ (m : Message).
+    if list_any (λ stamp. is_same_stamp stamp m.originate) (take 64 asks) then Some m else None) (answer_in bytes)
+
+abbrev after_it : Happening → Known → Known
+after_it Sleep x = record x { asks = []; landed = [] }
+after_it (Asks bytes) x =
+    record x { asks = option_to_list (option_map (λ (m : Message). m.originate) (request_in bytes)) ++ x.asks }
+after_it (Lands bytes reading) x = record x {
+  landed = option_to_list (option_map (λ m. record { message = m; reading = reading }) (awaited x.asks bytes))
+      ++ x.landed;
+}
+after_it (TellsCii bytes) x =
+    record x { texts = next_number x.texts; state = state_after (next_number x.texts) x.state bytes }
+after_it (TellsTs bytes) x = record x { control = Some (control_of bytes) }
+after_it BeginsTs x = record x { control = None; ended = false }
+after_it EndsTs x = record x { ended = true }
+
+abbrev known_in : List Happening → Known
+known_in [] = record { asks = []; landed = []; texts = 0; state = empty; control = None; ended = false }
+known_in (happening ∷ earlier) = after_it happening (known_in earlier)
+
+-- ---- entries that may be no happening
+landing_same : (taken : Option (List ℕ)) (reading : ℕ) (earlier : List Happening) (x : Known) → x ≡ known_in earlier
+    → record x {
+      landed = option_to_list (option_map (λ m. record { message = m; reading = reading }) (option_and_then
+          (λ (m : Message). if list_any (λ stamp. is_same_stamp stamp m.originate) (take 64 x.asks) then Some m
+          else None) (option_and_then answer_in taken))) ++ x.landed;
+    }
+    ≡ known_in (with_happening (landing taken reading) earlier)
+landing_same None reading earlier x e = e
+landing_same (Some bytes) reading earlier x e = ap (after_it (Lands bytes reading)) e
+
+text_same : (k : Option Kind) (bytes : List ℕ) (earlier : List Happening) (x : Known) → x ≡ known_in earlier
+    → record x {
+      texts = counted (if is_cii k then Some bytes else None) x.texts;
+      state = merged_with (if is_cii k then Some bytes else None) x.texts x.state;
+      control = option_or (option_map control_of (if is_ts k then Some bytes else None)) x.control;
+    }
+    ≡ known_in (with_happening (text_of k bytes) earlier)
+text_same (Some kind.Cii) bytes earlier x e = ap (after_it (TellsCii bytes)) e
+text_same (Some kind.Ts) bytes earlier x e = ap (after_it (TellsTs bytes)) e
+text_same _ bytes earlier x e = e
+
+end_same : (k : Option Kind) (earlier : List Happening) (x : Known) → x ≡ known_in earlier
+    → record x { ended = is_ts k || x.ended } ≡ known_in (with_happening (end_of k) earlier)
+end_same (Some kind.Ts) earlier x e = ap (after_it EndsTs) e
+end_same _ earlier x e = e
+
+known_same : (h : History) → known_of h ≡ known_in (happenings h)
+known_same [] = refl
+known_same (Slept ∷ older) = ap (after_it Sleep) (known_same older)
+known_same (Sent peer bytes ∷ older) = ap (after_it (Asks bytes)) (known_same older)
+known_same (Clock why.Land reading ∷ older) = landing_same (just_taken older) reading _ _ (known_same older)
+known_same (Heard peer bytes ∷ older) = text_same (kind_of peer older) bytes _ _ (known_same older)
+known_same (Closed peer ∷ older) = end_same (kind_of peer older) _ _ (known_same older)
+known_same (Gone peer ∷ older) = end_same (kind_of peer older) _ _ (known_same older)
+known_same (Dialled kind.Ts peer ∷ older) = ap (after_it BeginsTs) (known_same older)
+known_same (_ ∷ older) = known_same older
+
+-- ---- the report
+pub same_events : SameEventsAreReportedAlike
+same_events config live replayed reading e =
+    let own = config.companion.local in
+    let timing = λ (x : Known). timing_of x.control x.ended (rate_of config.companion.selector x.state.timelines) in
+    let same : known_of live ≡ known_of replayed = known_same live ∙ ap known_in e ∙ sym (known_same replayed) in
+    let report = ap (λ (x : Known).
+    report_by (wall_span own reading (possible_answers own x.landed)) (timing x)) same in
+    record {
+      report = report;
+      line = λ number position. ap (λ report. line_of number report position) report;
+      position = λ wall. ap (λ (x : Known). assigned_by (timing x) wall) same;
+      state = ap (λ (x : Known). x.state) same;
     }

@@ -99,11 +99,6 @@ opened_dialled wanted (entry ∷ older) p e =
     by None (Some q) was first older e = older p (below (is_peer was q) was e)
 
 -- ---- what the companion knows
--- it knows of a lawful history
-pub knows_lawful : (config : DriveConfig) (companion : Companion) (history : History) → Knows config companion history
-    → IsLawful history
-knows_lawful config companion history k = k.stands.client.lawful
-
 pub knows_as : (config : DriveConfig) (was is : Companion) (history : History) → is ≡ was → Knows config was history
     → Knows config is history
 knows_as config was is history e k = subst (λ (x : Companion). Knows config x history) (sym e) k

@@ -4,7 +4,6 @@ pub mod CompanionEnds
 pub mod CompanionRuns
 pub mod Reports
 pub mod CompanionLaws
-pub mod SameEvents
 pub mod TvPeers
 pub mod TvSteps
 pub mod TvLines

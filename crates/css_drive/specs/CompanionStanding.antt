@@ -1,6 +1,7 @@
 -- How the variables of a companion's run stand for its history.
 use Rattle.std.specs.Prelude.{◌≡◌, ◌≤◌, ◌<◌, ℕ, List, Bool, true, false, [], ◌∷◌, ◌++◌, Option, Some, None, Result, Ok}
-use Rattle.std.specs.Prelude.{Err, MatchResult, OnOk, IfErr, IfSome, is_some, nat_lt, ◌&&◌, ◌||◌, if◌then◌else◌, length, ⊤}
+use Rattle.std.specs.Prelude.{Err, MatchResult, OnOk, IfErr, IfSome, is_some, nat_lt, ◌&&◌, ◌||◌, if◌then◌else◌}
+use Rattle.std.specs.Prelude.{length, ⊤}
 use Rattle.css_model.specs.declared.TheConstants.{LIMIT}
 use Rattle.css_model.specs.declared.Why.{Why}
 use Rattle.css_model.specs.declared.Kind.{Kind}
@@ -139,7 +140,8 @@ pub record Stops (config : DriveConfig) (before now : Shown) (saw : List Note �
 abbrev pub Goes : {T : Type 0} → DriveConfig → Shown → Shown → (List Note → Type 0) → Option OutFault → Live
     → Companion → (T → History → Type 0) → Result T Driven → Type 0
 Goes config before now saw over live companion at result =
-    MatchResult result (λ value. Comes config before now saw live companion (at value)) (Stops config before now saw over)
+    MatchResult result (λ value. Comes config before now saw live companion (at value))
+    (Stops config before now saw over)
 
 -- ---- stages
 -- what an outside tells and counts in a run
@@ -174,7 +176,7 @@ a_reading why config history = Now why
 
 -- the turn is at this point, and what follows there is due
 abbrev pub IsAt : DriveConfig → Point → History → Type 0
-IsAt config point history = (point_of history ≡ point) × IsDue config (λ config history. due_at config point history) history
+IsAt config point history = (point_of history ≡ point) × (due config history ≡ due_at config point history)
 
 -- the point after a text was sent, or was gone
 abbrev pub spoken : Outcome → Point → Point
@@ -189,12 +191,6 @@ from_text session.Ts config history = from_ts_text config history
 abbrev pub after_text : Session → DriveConfig → History → Due
 after_text session.Cii config history = from_ts_text config history
 after_text session.Ts config history = from_end config history
-
--- an observer saw more notes where a call was made, and no more where none was
-abbrev pub SawMore : {W T : Type 0} → (W → W → List Note → Type 0) → W → W → (T → List Note) → Result T Driven
-    → Type 0
-SawMore {W} saw old new newest result = (started : W) (notes : List Note) → saw started old notes
-    → MatchResult result (λ value. saw started new (newest value ++ notes)) (λ _. saw started new notes)
 
 -- ---- single calls
 -- a fault of the outside, or want of memory
@@ -284,11 +280,6 @@ pub record HasRead (old new : Shown) (before now : Live) (was is : Companion) (w
   pub known : (config : DriveConfig) (history : History) → Knows config was history
       → Knows config is (sleep_entries clocked.slept ++ history)
   pub only : facts_in now ≡ record (facts_in before) { asked = asked_after clocked.slept before.asked }
-
--- a TS session was opened, and the companion knows
-abbrev pub HasBegun : Companion → Companion → Type 0
-HasBegun was is = (config : DriveConfig) (history : History) (peer : ℕ) → Knows config was history
-    → Knows config is (Dialled kind.Ts peer ∷ history)
 
 -- what is open of a session once that of a peer is over
 abbrev pub still : Option ℕ → ℕ → Option ℕ

@@ -1,14 +1,13 @@
 //! Single calls of a companion's run, of which its observer is told.
-ghost use Rattle.std.specs.Prelude.{◌≡◌, ◌≤◌, ◌∷◌, List, Option, None, Some, IfOk, IfErr, OnOk};
+ghost use Rattle.std.specs.Prelude.{◌≡◌, ◌≤◌, ◌∷◌, ◌++◌, List, MatchResult, Option, None, Some, IfOk, IfErr, OnOk};
 ghost use Rattle.css_outside.specs.Faults.{HasRisen};
 ghost use Rattle.css_outside.specs.declared.calls.Wrote.TheVariants.{Sent};
 ghost use Rattle.css_outside.specs.declared.fault.OutFault.{OutFault as Fault};
 ghost use Rattle.css_model.specs.History.{Entry, History};
-ghost use Rattle.css_companion.specs.Steps.{IsEntryOf};
-ghost use Rattle.css_companion.specs.declared.event.CompanionEvent.TheVariants.{TsClosed};
+ghost use Rattle.css_companion.specs.Steps.{IsEvent, IsEntryOf};
 ghost use Rattle.css_drive.specs.CompanionDue.{Point, due_at};
 ghost use Rattle.css_drive.specs.CompanionStanding.{Shown, shown, shown_of, IsEarly, Fails, Calls, HasDialled, HasRead};
-ghost use Rattle.css_drive.specs.CompanionStanding.{IsAt, Knows, LeadsFrom, Stays, SawMore, final_end};
+ghost use Rattle.css_drive.specs.CompanionStanding.{IsAt, Knows, LeadsFrom, Stays, final_end};
 ghost use Rattle.css_drive.specs.CompanionStanding.{facts_in, still, without, spoken};
 ghost use Rattle.css_drive.specs.Notes.{Note, Standpoint, Sees, dial_notes, slept_notes};
 ghost use Rattle.css_drive.specs.Proper.{SendText};
@@ -66,7 +65,9 @@ pub fn try_dial<O: Outside, W: Observes>(
     ensures told { Calls (shown (O.told outside.old) (O.counts outside.old))
         (shown (O.told outside.new) (O.counts outside.new)) (W.over observer.new)
         (λ old new. HasDialled old new kind to.now) result }
-    ensures saw { (from : Standpoint) → SawMore W.saw observer.old observer.new (dial_notes from kind) result }
+    ensures saw { (from : Standpoint) → (started : W) → (notes : List Note) → W.saw started observer.old notes
+        → MatchResult result (λ tried. W.saw started observer.new (dial_notes from kind tried ++ notes))
+        (λ _. W.saw started observer.new notes) }
     ensures last { (O.counts outside.new).last ≡ (O.counts outside.old).last }
     ensures dials { (O.counts outside.old).dial_faults ≤ (O.counts outside.new).dial_faults }
     ensures tried { IfOk result (λ tried. tried ≡ None
@@ -88,14 +89,15 @@ pub fn note_sleep<W: Observes>(observer: &mut W, clocked: &Clocked)
     }
 }
 
-/// The companion is told that its TS session is over.
-pub fn lose_ts(companion: &mut Companion) -> Result<(), Driven>
+/// Tells the companion of its TS session, of which nothing is refused.
+pub fn tell(companion: &mut Companion, event: CompanionEvent) -> Result<(), Driven>
+    requires { IsEvent event }
     ensures ok { (config : Config) → (history : History) → (entry : Entry) → Knows config companion.old history
-        → IsEntryOf TsClosed entry history → OnOk result (Knows config companion.new (entry ∷ history)) }
+        → IsEntryOf event entry history → OnOk result (Knows config companion.new (entry ∷ history)) }
     ensures err { IfErr result (λ ended. ended ≡ Driven.Memory) }
     ensures same { companion.new.client ≡ companion.old.client }
 {
-    match companion.step(CompanionEvent::TsClosed) {
+    match companion.step(event) {
         Ok(_) => Ok(()),
         Err(_) => Err(Driven::Memory),
     }
@@ -161,7 +163,7 @@ impl<O: Outside, W: Observes> Run<'_, O, W> {
             Wrote::Gone => {
                 self.observer.closed(Session::Ts);
                 self.live.close(peer);
-                lose_ts(self.companion)?;
+                tell(self.companion, CompanionEvent::TsClosed)?;
                 Ok(Wrote::Gone)
             }
         }

@@ -1,5 +1,7 @@
 //! The dials of a turn of a companion, and what the television is told first.
-ghost use Rattle.std.specs.Prelude.{◌≡◌, OnOk, IfOk, IfErr, IfSome, None, Some};
+ghost use Rattle.std.specs.Prelude.{◌≡◌, ◌∷◌, ℕ, OnOk, IfOk, IfErr, IfSome, None, Some};
+ghost use Rattle.css_model.specs.History.{Dialled, History};
+ghost use Rattle.css_model.specs.declared.Kind.TheVariants.{Ts};
 ghost use Rattle.css_outside.specs.Faults.{HasRisen};
 ghost use Rattle.css_tsmsg.specs.Setups.{setup_text};
 ghost use Rattle.css_tsmsg.specs.Presentations.{IsPresentation};
@@ -7,7 +9,8 @@ ghost use Rattle.css_companion.specs.Standing.{wanted_by};
 ghost use Rattle.css_companion.specs.Steps.{window};
 ghost use Rattle.css_drive.specs.CompanionDue.{from_cii, from_wc, from_ts, from_ask, window_text, Connected, SetUp};
 ghost use Rattle.css_drive.specs.Configs.{IsWindow};
-ghost use Rattle.css_drive.specs.CompanionStanding.{IsAt, IsDue, Leads, LeadsFrom, Stays, HasBegun};
+ghost use Rattle.css_drive.specs.CompanionStanding.{IsAt, IsDue, Leads, LeadsFrom, Knows, Stays};
+ghost use Rattle.css_drive.specs.declared.config.DriveConfig.{DriveConfig as Config};
 
 use crate::calls::place;
 use crate::companion_calls::try_dial;
@@ -39,7 +42,8 @@ fn window_of(companion: &mut Companion, earliest: Bound, latest: Bound) -> Resul
 fn setup_of(companion: &mut Companion) -> Result<Text, Driven>
     ensures text { IfOk result (λ text. text ≡ setup_text companion.old.setup) }
     ensures err { IfErr result (λ ended. ended ≡ Driven.Memory) }
-    ensures known { OnOk result (HasBegun companion.old companion.new) }
+    ensures known { (config : Config) → (history : History) → (peer : ℕ) → Knows config companion.old history
+        → OnOk result (Knows config companion.new (Dialled Ts peer ∷ history)) }
     ensures client { companion.new.client ≡ companion.old.client }
 {
     match companion.step(CompanionEvent::TsOpened) {

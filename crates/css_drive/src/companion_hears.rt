@@ -13,7 +13,7 @@ ghost use Rattle.css_drive.specs.CompanionStanding.{open_of, from_text, after_te
 
 use crate::calls;
 use crate::calls::{end_of, refused, send_datagram, take_text};
-use crate::companion_calls::{check, lose_ts, note_sleep};
+use crate::companion_calls::{check, note_sleep, tell};
 use crate::companion_live::{Live, Run};
 use crate::config::DriveConfig;
 use crate::driven::Driven;
@@ -37,21 +37,6 @@ fn take_in(companion: &mut Companion, text: Text) -> Result<(), Driven>
     match companion.step(CompanionEvent::CiiText(text)) {
         Ok(_) => Ok(()),
         Err(fault) => Err(refused(fault)),
-    }
-}
-
-/// Takes a text of the TS session in.
-fn take_in_ts(companion: &mut Companion, text: Text) -> Result<(), Driven>
-    ensures told { (config : DriveConfig) → (peer : ℕ) → (history : History)
-        → kind_of peer history ≡ Some kinds.Ts → Knows config companion.old history
-        → OnOk result (Knows config companion.new (entries.Heard peer text ∷ history)) }
-    ensures err { IfErr result (λ ended. ended ≡ Driven.Memory) }
-    ensures same { companion.new.client ≡ companion.old.client }
-{
-    match companion.step(CompanionEvent::TsText(text)) {
-        Ok(_) => Ok(()),
-        // A text of this session is never refused.
-        Err(_) => Err(Driven::Memory),
     }
 }
 
@@ -158,7 +143,7 @@ impl<O: Outside, W: Observes> Run<'_, O, W> {
                 self.observer.heard(session, &text, self.companion);
                 match session {
                     Session::Cii => take_in(self.companion, text),
-                    Session::Ts => take_in_ts(self.companion, text),
+                    Session::Ts => tell(self.companion, CompanionEvent::TsText(text)),
                 }
             }
             Heard::Closed => {
@@ -166,7 +151,7 @@ impl<O: Outside, W: Observes> Run<'_, O, W> {
                 self.live.close(peer);
                 match session {
                     Session::Cii => Ok(()),
-                    Session::Ts => lose_ts(self.companion),
+                    Session::Ts => tell(self.companion, CompanionEvent::TsClosed),
                 }
             }
         }

@@ -7,7 +7,8 @@ ghost use Rattle.css_drive.specs.Configs.{IsWindow};
 ghost use Rattle.css_drive.specs.CompanionDue.{from_turn, from_cii, from_end};
 ghost use Rattle.css_drive.specs.CompanionReports.{is_due};
 ghost use Rattle.css_drive.specs.CompanionStanding.{Knows, a_reading, Leads, Names};
-ghost use Rattle.css_drive.specs.CompanionStanding.{Stays, IsEarly, Made, HasTried, ending_of, facts_in, facts_of, is_another};
+ghost use Rattle.css_drive.specs.CompanionStanding.{Stays, IsEarly, Made, HasTried, ending_of, facts_in, facts_of};
+ghost use Rattle.css_drive.specs.CompanionStanding.{is_another};
 ghost use Rattle.css_drive.specs.Ends.{CountsNetFault, CountsDialFaults};
 
 use crate::companion_calls::ended_by;

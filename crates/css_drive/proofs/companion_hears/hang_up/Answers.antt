@@ -18,8 +18,9 @@ returns-in-Ok-hang_up_one g c = record {
       let x = ends.hung_cii (record { history = h; stands = s; lawful = l; hanging = i }) c.in-Ok.ensures in
       let y = ends.hung_ts x refl c.in-Ok-hang_up_one.ensures in
       let P : Due → Type 0 = λ d. MayEnd d c.args.end in
-      stops_here y.stands y.lawful _ c.args.end (ends.over_own _ i.over)
-      (subst P (sym (ends.left y)) (ends.over_ends c.args.end i.over));
+      let over = ends.over_ends c.args.end i.over in
+      stops_here y.stands y.lawful _ c.args.end over.1
+      (subst P (sym (ends.left y)) over.0);
   dials = omega (
     arith,
     ap (λ x. x.dial_faults) c.in-Ok.ensures.same,

@@ -1,5 +1,5 @@
-use Rattle.css_drive.proofs.SameEvents as alike
+use Rattle.css_drive.proofs.CompanionLaws as laws
 use Rattle.css_drive.proofs.companion_laws.same_events_are_reported_alike.Goals as goal
 
 pub returns : goal.returns
-returns c = alike.same_events
+returns c = laws.same_events

@@ -3,7 +3,7 @@ use Rattle.css_model.specs.declared.Kind.TheVariants as kind
 use Rattle.css_tsmsg.specs.Setups.{setup_text}
 use Rattle.css_drive.specs.CompanionStanding.{Facts}
 use Rattle.css_drive.specs.Notes.{standpoint}
-use Rattle.css_drive.proofs.CompanionSteps.{none_if, comes, stands_tried, failed, knows_lawful, stops_by_memory}
+use Rattle.css_drive.proofs.CompanionSteps.{none_if, comes, stands_tried, failed, stops_by_memory}
 use Rattle.css_drive.proofs.CompanionSteps.{stops_here, ends_by, at_err}
 use Rattle.css_drive.proofs.CompanionCalls as calls
 use Rattle.css_drive.proofs.companion_live.Run.dial_ts.Goals as goal
@@ -32,7 +32,7 @@ returns-in_err-setup-clause-goes g c before started h s k d =
     (call.saw (standpoint _ (_ ∷ h)) started _ s.saw_so)
     (record c.args.self.now.live { ts = Some p; ts_open = Some p })
     (ap {A = Facts} (λ x. record x { ts = Some p; ts_open = Some p }) s.facts))
-    (calls.lawful_plain _ _ (calls.lawful_plain _ _ (knows_lawful _ _ h k) refl refl) refl refl) _ _
+    (calls.lawful_plain _ _ (calls.lawful_plain _ _ k.stands.client.lawful refl refl) refl refl) _ _
     c.in_err-setup.ensures.err)
 
 pub returns-in_default-2-clause-goes : goal.returns-in_default-2-clause-goes
@@ -54,5 +54,5 @@ returns-in_err-to-clause-goes g c before started h s k d =
     let none = none_if _ (sym c.is_some.ensures ∙ c.if-is_some.false) in
     let gives = c.in_err-to.ensures.gives in
     at_err _ _ _ c.from_residual.result c.from_residual.ensures.1
-    (stops_here s (knows_lawful _ _ h k) _ _ (calls.bad_own _ _ _ gives) (ends_by _ _ _
+    (stops_here s k.stands.client.lawful _ _ (calls.bad_own _ _ _ gives) (ends_by _ _ _
     (calls.ts_due s d none _ (c.state.ensures.meaning h k.stands) _ refl) (calls.bad_place _ _ _ _ _ gives)))

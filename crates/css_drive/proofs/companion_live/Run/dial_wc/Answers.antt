@@ -1,6 +1,6 @@
 use Rattle.std.proofs.Common.{refl, sym, ◌∙◌, ◌∷◌}
 use Rattle.css_drive.specs.Notes.{standpoint}
-use Rattle.css_drive.proofs.CompanionSteps.{none_if, failed, knows_lawful, stops_here, ends_by, at_err}
+use Rattle.css_drive.proofs.CompanionSteps.{none_if, failed, stops_here, ends_by, at_err}
 use Rattle.css_drive.proofs.CompanionCalls as calls
 use Rattle.css_drive.proofs.companion_live.Run.dial_wc.Goals as goal
 
@@ -22,5 +22,5 @@ returns-in_err-to-clause-goes g c before started h s k d =
     let none = none_if _ (sym c.is_some.ensures ∙ c.if-is_some.false) in
     let gives = c.in_err-to.ensures.gives in
     at_err _ _ _ c.from_residual.result c.from_residual.ensures.1
-    (stops_here s (knows_lawful _ _ h k) _ _ (calls.bad_own _ _ _ gives) (ends_by _ _ _
+    (stops_here s k.stands.client.lawful _ _ (calls.bad_own _ _ _ gives) (ends_by _ _ _
     (calls.wc_due s d none _ (c.state.ensures.meaning h k.stands) _ refl) (calls.bad_place _ _ _ _ _ gives)))

@@ -7,7 +7,7 @@ use Rattle.css_drive.specs.CompanionDue.{due_at, sending, window_text, from_ask,
 use Rattle.css_drive.specs.CompanionStanding.{spoken}
 use Rattle.css_drive.specs.Proper.{SendText}
 use Rattle.css_drive.specs.declared.config.DriveConfig.{DriveConfig}
-use Rattle.css_drive.proofs.CompanionSteps.{comes, knows_as, knows_lawful, stops_by_memory, at_err}
+use Rattle.css_drive.proofs.CompanionSteps.{comes, knows_as, stops_by_memory, at_err}
 use Rattle.css_drive.proofs.companion_live.Run.present.Goals as goal
 
 -- after the presentation nothing more is said
@@ -42,4 +42,4 @@ returns-in_err-say-clause-goes g c at before started h s k when =
 pub returns-in_err-text-clause-goes : goal.returns-in_err-text-clause-goes
 returns-in_err-text-clause-goes g c at before started h s k when =
     at_err _ _ _ c.from_residual.result c.from_residual.ensures.1
-    (stops_by_memory s (knows_lawful _ _ h k) _ _ c.in_err-text.ensures.err)
+    (stops_by_memory s k.stands.client.lawful _ _ c.in_err-text.ensures.err)

@@ -4,7 +4,7 @@ use Rattle.css_outside.specs.declared.calls.Wrote.TheVariants as outcome
 use Rattle.css_drive.specs.CompanionDue.{due_at, text_sent, text_gone}
 use Rattle.css_drive.specs.CompanionStanding.{without}
 use Rattle.css_drive.specs.Notes.{standpoint}
-use Rattle.css_drive.proofs.CompanionSteps.{comes, failed, fails_over, at_err, knows_lawful, stops_by_memory}
+use Rattle.css_drive.proofs.CompanionSteps.{comes, failed, fails_over, at_err, stops_by_memory}
 use Rattle.css_drive.proofs.CompanionCalls as calls
 use Rattle.css_drive.proofs.companion_live.Run.say.Goals as goal
 
@@ -17,25 +17,25 @@ returns-in-Sent-clause-goes g c at cfg point before started h s k when =
     (calls.knows_plain (Wrote p text) k refl refl refl refl refl refl refl) _
     (ap text_sent when.0.0, ap (λ x. due_at cfg (text_sent x) (Wrote p text ∷ h)) when.0.0)
 
-pub returns-in_ok-lose_ts-in-Gone-clause-goes : goal.returns-in_ok-lose_ts-in-Gone-clause-goes
-returns-in_ok-lose_ts-in-Gone-clause-goes g c at cfg point before started h s k when =
+pub returns-in_ok-tell-in-Gone-clause-goes : goal.returns-in_ok-tell-in-Gone-clause-goes
+returns-in_ok-tell-in-Gone-clause-goes g c at cfg point before started h s k when =
     let p : ℕ = c.args.peer in
     let call = rw c.in-Gone.is at c.in_ok-send_text.ensures.told in
     comes (calls.ts_sent s at (when.0.1 ∙ when.1) outcome.Gone call
     (c.closed.ensures (standpoint cfg h) started _ c.in_ok-check.ensures.on s.saw_so) _
     (ap (without p) s.facts ∙ sym c.close.ensures))
-    (c.in_ok-lose_ts-in-Gone.ensures.ok cfg h (Gone p) k (p, inr refl, calls.open_ts s at)) _
+    (c.in_ok-tell-in-Gone.ensures.ok cfg h (Gone p) k (p, inr refl, calls.open_ts s at)) _
     (ap text_gone when.0.0, ap (λ x. due_at cfg (text_gone x) (Gone p ∷ h)) when.0.0)
 
-pub returns-in_err-lose_ts-in-Gone-clause-goes : goal.returns-in_err-lose_ts-in-Gone-clause-goes
-returns-in_err-lose_ts-in-Gone-clause-goes g c at cfg point before started h s k when =
+pub returns-in_err-tell-in-Gone-clause-goes : goal.returns-in_err-tell-in-Gone-clause-goes
+returns-in_err-tell-in-Gone-clause-goes g c at cfg point before started h s k when =
     let p : ℕ = c.args.peer in
     let call = rw c.in-Gone.is at c.in_ok-send_text.ensures.told in
-    at_err _ _ _ _ c.from_residual-in_err-lose_ts-in-Gone.ensures.1
+    at_err _ _ _ _ c.from_residual-in_err-tell-in-Gone.ensures.1
     (stops_by_memory (calls.ts_sent s at (when.0.1 ∙ when.1) outcome.Gone call
     (c.closed.ensures (standpoint cfg h) started _ c.in_ok-check.ensures.on s.saw_so) c.close.new.self
     (ap (without p) s.facts ∙ sym c.close.ensures))
-    (calls.lawful_plain (Gone p) h (knows_lawful _ _ h k) refl refl) _ _ c.in_err-lose_ts-in-Gone.ensures.err)
+    (calls.lawful_plain (Gone p) h k.stands.client.lawful refl refl) _ _ c.in_err-tell-in-Gone.ensures.err)
 
 pub returns-in_err-send_text-clause-goes : goal.returns-in_err-send_text-clause-goes
 returns-in_err-send_text-clause-goes g c at cfg point before started h s k when =

@@ -1,4 +1,4 @@
-use Rattle.std.proofs.Common.{refl, sym, ◌∙◌, subst, ◌++◌}
+use Rattle.std.proofs.Common.{refl, sym, ◌∙◌, subst, ◌++◌, true, false}
 use Rattle.css_model.specs.History.{Clock}
 use Rattle.css_model.specs.declared.Why.TheVariants as why
 use Rattle.css_outside.specs.Outsides.{sleep_entries}
@@ -23,10 +23,11 @@ returns-then-due-clause-goes g c before started h s k d =
     let report = c.report-report.result in
     let so = runs.reports_so cfg _ slept clocked.reading report known (c.report-report.ensures.report _ known.stands) in
     let after = g.W.Observes.saw started c.reported.new.self in
-    let saw = c.reported.ensures (standpoint cfg h) known started _ c.in_ok-clocked.ensures.on (c.in_ok-clocked.ensures.saw started _ s.saw_so) in
-    comes (calls.stands_read s read d (subst after (sym (ends.reported_notes cfg slept live clocked.reading f due _
+    let saw = c.reported.ensures (standpoint cfg h) known started _ c.in_ok-clocked.ensures.on
+    (c.in_ok-clocked.ensures.saw started _ s.saw_so) in
+    comes (calls.stands_read s read d (subst after (sym (ends.begun_notes cfg slept live clocked.reading f true due _
     (calls.slept_noted cfg h clocked.slept) report so)) saw) _
-    (ends.reported_facts cfg slept live clocked.reading f due _ c.unwrap_or.ensures))
+    (ends.begun_facts cfg slept live clocked.reading f true due _ c.unwrap_or.ensures))
     (calls.knows_plain (Clock why.Turn clocked.reading) known refl refl refl refl refl refl refl) _ refl
 
 pub returns-clause-goes : goal.returns-clause-goes
@@ -40,12 +41,14 @@ returns-clause-goes g c before started h s k d =
     let f = calls.read_facts s read in
     let due = sym c.reports_at-due.ensures ∙ c.if-due.false in
     let after = g.W.Observes.saw started c.turned.new.self in
-    let saw = c.turned.ensures (standpoint cfg h) known started _ c.in_ok-clocked.ensures.on (c.in_ok-clocked.ensures.saw started _ s.saw_so) in
-    comes (calls.stands_read s read d (subst after (sym (ends.turned_notes cfg slept live clocked.reading f due _
-    (calls.slept_noted cfg h clocked.slept))) saw) _
-    (ends.turned_facts cfg slept live clocked.reading f due _ c.unwrap_or.ensures))
+    let saw = c.turned.ensures (standpoint cfg h) known started _ c.in_ok-clocked.ensures.on
+    (c.in_ok-clocked.ensures.saw started _ s.saw_so) in
+    comes (calls.stands_read s read d (subst after (sym (ends.begun_notes cfg slept live clocked.reading f false due _
+    (calls.slept_noted cfg h clocked.slept) _ refl)) saw) _
+    (ends.begun_facts cfg slept live clocked.reading f false due _ c.unwrap_or.ensures))
     (calls.knows_plain (Clock why.Turn clocked.reading) known refl refl refl refl refl refl refl) _ refl
 
 pub returns-in_err-clocked-clause-goes : goal.returns-in_err-clocked-clause-goes
 returns-in_err-clocked-clause-goes g c before started h s k d =
-    failed s _ _ k c.from_residual.ensures.1 c.in_err-clocked.ensures.told _ (c.in_err-clocked.ensures.saw started _ s.saw_so)
+    failed s _ _ k c.from_residual.ensures.1 c.in_err-clocked.ensures.told _
+    (c.in_err-clocked.ensures.saw started _ s.saw_so)

@@ -1,7 +1,7 @@
 use Rattle.std.proofs.Common.{refl, Some, None, ℕ, List, ◌∷◌, [], ap, take}
 use Rattle.css_model.specs.History.{Took, TookNone}
 use Rattle.css_drive.specs.Proper.{TakeDatagram}
-use Rattle.css_drive.proofs.CompanionSteps.{comes, stands_adds, stops_by_fault, failed, knows_lawful}
+use Rattle.css_drive.proofs.CompanionSteps.{comes, stands_adds, stops_by_fault, failed}
 use Rattle.css_drive.proofs.CompanionCalls as calls
 use Rattle.css_drive.proofs.companion_live.Run.take.Goals as goal
 
@@ -27,7 +27,7 @@ returns-in-Ok-Some-clause-goes g c before started h s k d =
 
 pub returns-in-Err-clause-goes : goal.returns-in-Err-clause-goes
 returns-in-Err-clause-goes g c before started h s k d =
-    stops_by_fault s (knows_lawful _ _ h k) (c.end_of.ensures.failed _ _ _ c.in_ok-check.ensures.on
+    stops_by_fault s k.stands.client.lawful (c.end_of.ensures.failed _ _ _ c.in_ok-check.ensures.on
     c.in-Err.ensures.told c.in-Err.ensures.counted.faults (ap (λ x. x.dial_faults) c.in-Err.ensures.counted.same))
     s.saw_so
 

@@ -3,7 +3,7 @@ use Rattle.std.proofs.lemmas.Bool.{ltb-true}
 use Rattle.css_drive.specs.CompanionStanding.{Facts, IsHangingUp, facts_in}
 use Rattle.css_drive.specs.Ends.{CountsDialFaults}
 use Rattle.css_drive.specs.declared.driven.Driven.{Driven}
-use Rattle.css_drive.proofs.CompanionSteps.{comes, knows_lawful}
+use Rattle.css_drive.proofs.CompanionSteps.{comes}
 use Rattle.css_drive.proofs.CompanionEnds as ends
 use Rattle.css_drive.proofs.CompanionRuns as runs
 use Rattle.css_drive.proofs.companion_live.Run.turns.Goals as goal
@@ -66,7 +66,7 @@ returns g c =
     let over = sym c.goes_again.ensures ∙ c.turns-test.false in
     let P : Driven → Type 0 = λ x. IsHangingUp cfg x w.history in
     let hanging = subst P (sym c.ending-end.ensures) (ends.is_over w.stands w.next over) in
-    let s = c.hang_up-ended.ensures.stops _ _ w.history w.stands (knows_lawful cfg _ _ w.known) hanging in
+    let s = c.hang_up-ended.ensures.stops _ _ w.history w.stands w.known.stands.client.lawful hanging in
     let le : (g.O.Outside.counts c.args.self.now.outside.now).dial_faults
     ≤ (g.O.Outside.counts c.hang_up-ended.new.outside).dial_faults =
     omega (arith, i.dials, c.hang_up-ended.ensures.dials) in
