@@ -15,7 +15,7 @@ use Rattle.css_companion.specs.declared.report.Report.{Report}
 use Rattle.css_companion.proofs.Headline as headline
 use Rattle.css_drive.specs.CompanionDue.{due, hang_up, from_hang_ups, from_turn, from_cii, from_end, final, is_short}
 use Rattle.css_drive.specs.CompanionReports.{due_reports, report_at, is_due, IsPromisedAt, KeepsPromises}
-use Rattle.css_drive.specs.CompanionStanding.{Shown, Facts, facts_of, facts_in, Stands, IsOver}
+use Rattle.css_drive.specs.CompanionStanding.{Shown, Facts, facts_of, facts_in, Stands}
 use Rattle.css_drive.specs.CompanionStanding.{IsHangingUp, Adds, ending_of, is_another}
 use Rattle.css_drive.specs.CompanionStanding.{hung as closing}
 use Rattle.css_drive.specs.CompanionTurns.{turn_at, first_turn, turns, first_of, counted, is_late, goes_on}
@@ -101,16 +101,6 @@ any_is (Dialled kind.Ts p ∷ h) =
     ∙ ap (λ b. is_some (dialled kind.Cii h) || b) (or_here (is_some (dialled kind.Wc h)))
 any_is (_ ∷ h) = any_is h
 
-ending_over : (reports : ℕ) (facts : Facts) → IsOver (ending_of reports facts)
-ending_over reports facts =
-    by (nat_lt facts.reported reports) (is_some facts.cii || (is_some facts.wc || is_some facts.ts))
-  where
-    by : (short any : Bool)
-        → IsOver (cond short (cond any (driven.Spent facts.made) (driven.Unreachable facts.made)) driven.Done)
-    by true true = tt
-    by true false = tt
-    by false any = tt
-
 -- before the first turn none was made
 none_made : (h : History) → first_turn h ≡ None → turns h ≡ 0
 none_made [] e = refl
@@ -184,7 +174,6 @@ module _ {config : DriveConfig} {before now : Shown} {saw : List Note → Type 0
       ap (λ b. cond (is_short config history) (cond b (driven.Spent (turns history)) (driven.Unreachable (turns
       history))) driven.Done) (any_is history) ∙ ap (ending_of config.reports) s.facts in
       record {
-        over = ending_over config.reports (facts_in live);
         first = at_end d false last ∙ ap (λ x. from_hang_ups x history) f;
         final_so = f;
       }
@@ -200,11 +189,16 @@ module _ {config : DriveConfig} {before now : Shown} {saw : List Note → Type 0
       ∙ ap (λ b. b && goes_on config.limit live.first live.turn live.made) (sym (is_fewer _ _ few)) ∙ last)
 
 -- ---- hanging up
-pub over_ends : (end : Driven) → IsOver end → MayEnd (Ends end) end × IsOwn end
-over_ends driven.Done o = (refl, tt)
-over_ends (driven.Spent turns) o = (refl, tt)
-over_ends (driven.Unreachable turns) o = (refl, tt)
-over_ends _ o = absurd o
+-- where the sessions are hung up the run may end so
+pub final_ends : (config : DriveConfig) (history : History)
+    → MayEnd (Ends (final config history)) (final config history) × IsOwn (final config history)
+final_ends config history = by (is_short config history) (any_dialled history)
+  where
+    by : (short any : Bool) → let end = cond short (cond any (driven.Spent (turns history)) (driven.Unreachable (turns
+        history))) driven.Done in MayEnd (Ends end) end × IsOwn end
+    by true true = (refl, tt)
+    by true false = (refl, tt)
+    by false any = (refl, tt)
 
 -- the run hangs up the sessions that are open, to end so
 pub record Hangs (config : DriveConfig) (before now : Shown) (saw : List Note → Type 0) (live : Live) (end : Driven)
@@ -238,7 +232,6 @@ module _ {config : DriveConfig} {before now : Shown} {saw : List Note → Type 0
         stands_adds x.stands (HangUp q) d (HungUp q ∷ []) refl x.stands.peers adds x.stands.saw_so later facts;
     lawful = record { rises = (tt, x.lawful.rises); asks = (tt, x.lawful.asks) };
     hanging = record {
-      over = x.hanging.over;
       first = ap (λ y. from_hang_ups y (HungUp q ∷ x.history)) x.hanging.final_so;
       final_so = x.hanging.final_so;
     };

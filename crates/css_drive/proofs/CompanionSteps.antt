@@ -128,12 +128,9 @@ own_quiet _ own n = n
 
 -- a call that was not made or failed
 pub fails_so : (over : Option OutFault) (ended : Driven) → IsEndBy over ended → IsSo over ended
-fails_so None ended f = by ended f
-  where
-    by : (ended : Driven) → IsFault ended → IsSo None ended
-    by (driven.NetFault failure) f = refl
-    by driven.Memory f = tt
-    by _ f = absurd f
+fails_so None (driven.NetFault failure) f = refl
+fails_so None driven.Memory f = tt
+fails_so None _ f = absurd f
 fails_so (Some (fault.Failed failure)) ended f =
     let P : Driven → Type 0 = λ x. IsSo (Some (fault.Failed failure)) x in
     let never : Some (fault.Failed failure) ≡ None → ⊥ = λ e. cc in

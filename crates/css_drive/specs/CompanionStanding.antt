@@ -299,16 +299,8 @@ IsRefusal refusal driven.Memory = ⊤
 IsRefusal None ended = ⊥
 IsRefusal (Some fault) ended = ended ≡ end_by fault
 
--- the run was made to an end of these
-abbrev pub IsOver : Driven → Type 0
-IsOver driven.Done = ⊤
-IsOver (driven.Spent turns) = ⊤
-IsOver (driven.Unreachable turns) = ⊤
-IsOver _ = ⊥
-
 -- the sessions that are open are to be hung up, and then the run ends so
 pub record IsHangingUp (config : DriveConfig) (end : Driven) (history : History) : Type 0 where
-  pub over : IsOver end
   pub first : due config history ≡ from_hang_ups end history
   pub final_so : final config history ≡ end
 

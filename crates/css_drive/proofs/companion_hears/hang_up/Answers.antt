@@ -1,7 +1,8 @@
 use Rattle.std.proofs.Common.{refl, sym, ap, subst, inl, inr, arith}
 use Rattle.css_drive.specs.Ends.{MayEnd}
-use Rattle.css_drive.specs.Proper.{Due}
-use Rattle.css_drive.proofs.CompanionSteps.{stops_by_fault, stops_here}
+use Rattle.css_drive.specs.Proper.{Due, Ends}
+use Rattle.css_drive.specs.declared.driven.Driven.{Driven}
+use Rattle.css_drive.proofs.CompanionSteps.{IsOwn, stops_by_fault, stops_here}
 use Rattle.css_drive.proofs.CompanionEnds as ends
 use Rattle.css_drive.proofs.companion_hears.hang_up.Goals as goal
 
@@ -18,9 +19,9 @@ returns-in-Ok-hang_up_one g c = record {
       let x = ends.hung_cii (record { history = h; stands = s; lawful = l; hanging = i }) c.in-Ok.ensures in
       let y = ends.hung_ts x refl c.in-Ok-hang_up_one.ensures in
       let P : Due → Type 0 = λ d. MayEnd d c.args.end in
-      let over = ends.over_ends c.args.end i.over in
-      stops_here y.stands y.lawful _ c.args.end over.1
-      (subst P (sym (ends.left y)) over.0);
+      let Q : Driven → Type 0 = λ x. MayEnd (Ends x) x × IsOwn x in
+      let may = subst Q y.hanging.final_so (ends.final_ends c.args.config.now y.history) in
+      stops_here y.stands y.lawful _ c.args.end may.1 (subst P (sym (ends.left y)) may.0);
   dials = omega (
     arith,
     ap (λ x. x.dial_faults) c.in-Ok.ensures.same,
