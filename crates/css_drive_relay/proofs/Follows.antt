@@ -20,8 +20,6 @@ use Rattle.css_model.specs.History.{request_in}
 use Rattle.css_model.specs.Wire.{encoded, request_at}
 use Rattle.css_outside.specs.Limits.{most_turns}
 use Rattle.css_outside.specs.Outsides.{opening_entries, datagram_entries, heard_entries, wrote_entries, clock_entries}
-use Rattle.css_outside.specs.declared.calls.Heard.{Heard as SessionHeard}
-use Rattle.css_outside.specs.declared.calls.Wrote.{Wrote as Outcome}
 use Rattle.css_cii.specs.declared.state.State.{State}
 use Rattle.css_sessions.specs.Kept.{difference_text, full_text}
 use Rattle.css_drive_relay.specs.Places.{Place, Begun, Called, Asking, Taken, Received, Answers, Served, Greeting}
@@ -34,7 +32,6 @@ use Rattle.css_drive_relay.specs.declared.config.RelayRun.{RelayRun}
 use Rattle.css_drive.specs.Ends.{MayEnd}
 use Rattle.css_drive.specs.declared.driven.Driven.{Driven}
 use Rattle.css_relay.specs.Answers.{Ticket, received_after, answered_after, datagram_of}
-use Rattle.css_relay.specs.declared.fault.RelayFault.{RelayFault}
 use Rattle.css_drive_relay.specs.Made.{HasMadeAll, MadeTurns, TurnsAreMade}
 use Rattle.css_companion.specs.declared.fault.CompanionFault.TheVariants as fault
 use Rattle.css_drive.specs.declared.driven.Driven.TheVariants as driven
@@ -175,11 +172,8 @@ module _ (run : RelayRun) (f : Facts) (history : History) (place : Place) (said 
         by (Some peer) url = fits_ask
 
     fits_cii : Fits run f place (dial_first f.cii run.cii (from_wc run f history))
-    fits_cii = by f.cii
-      where
-        by : (o : Option ℕ) → Fits run f place (dial_first o run.cii (from_wc run f history))
-        by None = (said, rest)
-        by (Some peer) = fits_wc
+    fits_cii = elim f.cii as (λ o. Fits run f place (dial_first o run.cii (from_wc run f history)))
+        [ None ↦ (said, rest) | Some peer ↦ fits_wc ]
 
     fits_dialled : (k : Kind) → Fits run f place (from_dial run k f history)
     fits_dialled kind.Cii = fits_wc
@@ -189,11 +183,9 @@ pub fits : (run : RelayRun) (f : Facts) (history : History) (place : Place)
     → Fits run f place (due_at run f history place)
 fits run f history Begun = fits_cii run f history Begun refl tt tt
 fits run f history (Called k) = fits_dialled run f history (Called k) refl tt tt k
-fits run f history (Asking reading) = by f.wc
-  where
-    by : (o : Option ℕ) → Fits run f (Asking reading) (send_to o (encoded (request_at reading)))
-    by None = (refl, tt)
-    by (Some peer) = (refl, refl)
+fits run f history (Asking reading) =
+    elim f.wc as (λ o. Fits run f (Asking reading) (send_to o (encoded (request_at reading))))
+    [ None ↦ (refl, tt) | Some peer ↦ (refl, refl) ]
 fits run f history (Taken peer bytes) =
     cond_both (is_some (request_in bytes)) (Now why.Take) (Now why.Land) (Fits run f (Taken peer bytes))
     (λ e. (refl, tt, tt)) (λ e. (refl, tt, tt))
@@ -254,17 +246,12 @@ module _ (run : RelayRun) (older : History) (each : Followed run older) where
       by : (o : Option (ℕ × ℕ)) → After (datagram_entries may.0 o)
       by None = (fits, each)
       by (Some (peer, count)) = (fits, each)
-  added (TakeText peer) fits call may = subst After (sym may.1) (by may.0)
-    where
-      by : (x : SessionHeard) → After (heard_entries peer x)
-      by heard.Quiet = (fits, each)
-      by (heard.Text text) = (fits, each)
-      by heard.Closed = (fits, each)
-  added (SendText peer text) fits call may = subst After (sym may.1) (by may.0)
-    where
-      by : (x : Outcome) → After (wrote_entries peer text x)
-      by outcome.Sent = (fits, each)
-      by outcome.Gone = ((text, fits), each)
+  added (TakeText peer) fits call may =
+      subst After (sym may.1) (elim may.0 as (λ x. After (heard_entries peer x))
+      [ heard.Quiet ↦ (fits, each) | heard.Text text ↦ (fits, each) | heard.Closed ↦ (fits, each) ])
+  added (SendText peer text) fits call may =
+      subst After (sym may.1) (elim may.0 as (λ x. After (wrote_entries peer text x))
+      [ outcome.Sent ↦ (fits, each) | outcome.Gone ↦ ((text, fits), each) ])
   added (HangUp peer) fits call may = subst After (sym may) (fits, each)
   added (Ends ended) fits call may = absurd may
 
@@ -286,21 +273,15 @@ module _ (P : Place → Type 0) where
   pub on_received : (run : RelayRun) (reading : ℕ) (older : History) (place : Place) → IsTaken place → P Served
       → ((peer : ℕ) (ticket : Ticket) → P (Received peer ticket)) → P (places.received_at run reading older place)
   on_received run reading older (Taken peer bytes) is served received =
-      by (received_after run.companion.local older reading bytes)
-    where
-      by : (x : Result Ticket RelayFault) → P (places.received peer x)
-      by (Ok ticket) = received peer ticket
-      by (Err bad) = served
+      elim (received_after run.companion.local older reading bytes) as (λ x. P (places.received peer x))
+      [ Ok ticket ↦ received peer ticket | Err bad ↦ served ]
   on_received run reading older place is served received = absurd is
 
   pub on_answered : (run : RelayRun) (reading : ℕ) (older : History) (place : Place) → IsReceived place → P Served
       → ((peer : ℕ) (bytes : List ℕ) → P (Answers peer bytes)) → P (places.answered_at run reading older place)
   on_answered run reading older (Received peer ticket) is served answers =
-      by (datagram_of (answered_after run.companion.local older reading ticket))
-    where
-      by : (x : Result (List ℕ) RelayFault) → P (places.answering peer x)
-      by (Ok bytes) = answers peer bytes
-      by (Err bad) = served
+      elim (datagram_of (answered_after run.companion.local older reading ticket)) as (λ x. P (places.answering peer x))
+      [ Ok bytes ↦ answers peer bytes | Err bad ↦ served ]
   on_answered run reading older place is served answers = absurd is
 
   pub on_hung_up : (place : Place) (f : Facts) → P (next_asked f.television f.peers)

@@ -2,9 +2,10 @@
 -- read from that.
 use Rattle.std.proofs.Common.{◌≡◌, ℕ, ◌≤◌, ◌<◌, arith, ap, ◌∙◌, subst, refl, Bool, true, false, cond, List, [], ◌∷◌}
 use Rattle.std.proofs.Common.{◌++◌, sym, Option, Some, None, Result, Ok, Err, inl, inr, length, take}
-use Rattle.std.specs.Prelude.{ℤ, pos, negsuc, neg_ℤ, ◌≤ℤ◌, FitsSigned, max, nat_lt, ◌==◌, ◌⊎◌, ⊤, IfSome, IsTrue}
+use Rattle.std.specs.Prelude.{ℤ, pos, negsuc, neg_ℤ, ◌≤ℤ◌, FitsSigned, max, nat_lt, ◌==◌, ◌⊎◌, ⊤}
 use Rattle.std.specs.Int.{w8}
 use Rattle.std.specs.Option.{option_to_list, option_and_then}
+use Rattle.std.proofs.lemmas.Option.{IfSome_then}
 use Rattle.std.proofs.lemmas.Bool.{ltb-false}
 use Rattle.std.proofs.lemmas.Int.{ints}
 use Rattle.css_num.specs.Spans.{Interval}
@@ -655,17 +656,10 @@ module _ (errors : Errors) (world : World) (who : ℕ) (run : RelayRun) (history
       → Each (TruthfulAt world errors.tv second_own second_moment_of) second_history
   each_truthful second_moment_of second_own [] each = tt
   each_truthful second_moment_of second_own (entry ∷ older) each = (
-    by (landed_answer entry older) each.0,
+    IfSome_then (landed_answer entry older) each.0 (λ landed x possible.
+        from_run second_moment_of landed older (x possible)),
     each_truthful second_moment_of second_own older each.1,
   )
-    where
-      by : (o : Option LandedAnswer)
-          → IfSome o (λ landed. IsTrue (is_possible second_own landed (landed_answers older))
-          → IsFromRun history moment_of second_moment_of landed older)
-          → IfSome o (λ landed. IsTrue (is_possible second_own landed (landed_answers older))
-          → IsTruthful world errors.tv second_moment_of landed older)
-      by None x = tt
-      by (Some landed) x = λ possible. from_run second_moment_of landed older (x possible)
 
 pub second_hops_are_true : SecondHopsAreTrue
 second_hops_are_true errors world who run history moment_of second second_own second_history second_moment_of proper

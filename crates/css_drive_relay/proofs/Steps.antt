@@ -649,11 +649,8 @@ module _ {run : RelayRun} {start now mid : Shown} {live later : Live} {history :
       stands_read s (ap from_taken some) tt r (stood later (received peer result))
       (known_as later (λ own h. received_after own h clocked.reading bytes) (received peer)
       (r.known run history s.knows) value)
-      (unnamed history (received peer result) (by result))
-    where
-      by : (x : Result Ticket RelayFault) → named (received peer x) ≡ []
-      by (Err bad) = refl
-      by (Ok ticket) = refl
+      (unnamed history (received peer result)
+      (elim result as (λ x. named (received peer x) ≡ []) [ Err bad ↦ refl | Ok ticket ↦ refl ]))
 
   pub answers : {peer : ℕ} {ticket : Ticket} → Stands run start now was (stood live (Received peer ticket)) history
       → HasRead now mid live later was is why.Give clocked → (result : Result (List ℕ) RelayFault)
@@ -663,11 +660,8 @@ module _ {run : RelayRun} {start now mid : Shown} {live later : Live} {history :
   answers {peer} {ticket} s r result value =
       stands_read s refl tt r (stood later (answering peer result))
       (known_as later (λ own h. datagram_of (answered_after own h clocked.reading ticket)) (answering peer)
-      (r.known run history s.knows) value) (unnamed history (answering peer result) (by result))
-    where
-      by : (x : Result (List ℕ) RelayFault) → named (answering peer x) ≡ []
-      by (Err bad) = refl
-      by (Ok bytes) = refl
+      (r.known run history s.knows) value) (unnamed history (answering peer result)
+      (elim result as (λ x. named (answering peer x) ≡ []) [ Err bad ↦ refl | Ok bytes ↦ refl ]))
 
 -- ---- sessions that others open
 module _ (live : Live) {run : RelayRun} {start now next : Shown} {history : History} {relay : Relay}
