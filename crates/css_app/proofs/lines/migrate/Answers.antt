@@ -1,10 +1,7 @@
-use Rattle.css_replay.proofs.OverLines.{read_all, stop_ends, stopped}
+use Rattle.css_replay.proofs.OverLines.{stop_ends, stopped}
 use Rattle.css_app.specs.Ended.{line_refused}
 use Rattle.css_app.proofs.LiveEnds.{tells_lines}
 use Rattle.css_app.proofs.lines.migrate.Goals as goal
-
-pub returns-in-Ok-clause-does : goal.returns-in-Ok-clause-does
-returns-in-Ok-clause-does g c = read_all c.in-Ok.ensures.ran
 
 pub returns-in-Err : goal.returns-in-Err
 returns-in-Err g c =

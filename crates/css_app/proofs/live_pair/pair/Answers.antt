@@ -18,9 +18,6 @@ returns-in-Err g c =
     }
 
 -- memory ran out before a child was started
-pub returns-in_default-clause-ran : goal.returns-in_default-clause-ran
-returns-in_default-clause-ran g c = inl (((refl, refl, c.prepare.ensures.same_seen), refl, refl), tt)
-
 -- the child was not started
 pub returns-in-Err-Failed-clause-ran : goal.returns-in-Err-Failed-clause-ran
 returns-in-Err-Failed-clause-ran g c =

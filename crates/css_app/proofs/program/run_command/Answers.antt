@@ -57,18 +57,6 @@ returns-in-Ok-Watch-clause-does g c = rw (c.in-Ok-Watch.is, c.in-Ok-Watch.field-
   complete = c.watch_television.ensures.complete;
 })
 
-pub returns-in-Ok-Generate-clause-does : goal.returns-in-Ok-Generate-clause-does
-returns-in-Ok-Generate-clause-does g c = rw (c.in-Ok-Generate.is, c.in-Ok-Generate.field-0-is) (record {
-  writes = rw c.companions_in.ensures.value at c.generate.ensures.writes;
-  complete = c.generate.ensures.complete;
-})
-
-pub returns-in-Ok-Survey-clause-does : goal.returns-in-Ok-Survey-clause-does
-returns-in-Ok-Survey-clause-does g c = rw (c.in-Ok-Survey.is, c.in-Ok-Survey.field-0-is) (record {
-  writes = rw c.companions_in-in-Ok-Survey.ensures.value at c.survey.ensures.writes;
-  complete = c.survey.ensures.complete;
-})
-
 -- ---- the counts of the devices that a command doesn't use are as before
 pub returns-in-Ok-Replay-clause-counted : goal.returns-in-Ok-Replay-clause-counted
 returns-in-Ok-Replay-clause-counted g c = record {
