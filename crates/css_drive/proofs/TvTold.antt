@@ -520,13 +520,11 @@ module _ (a : Addresses) (Q : List TvEvent → List TvOut → Type 0) (k : IsKep
     by (Turned reading) = kept_carry (since p.turns) reading p.lines p q
     by _ = q
 
-  kept_ticketed : (peer reading : ℕ) (p : Progress) (r : Result Ticket ServeFault) → At Q p
-      → At Q (ticketed peer reading p r)
-  kept_ticketed peer reading p (Err f) q = q
-  kept_ticketed peer reading p (Ok ticket) q = q
-
   kept_received : (reading : ℕ) (place : Place) (p : Progress) → At Q p → At Q (received_at reading place p)
-  kept_received reading (Taken peer bytes) p q = kept_ticketed peer reading p (received p.server bytes reading) q
+  kept_received reading (Taken peer bytes) p q = by (received p.server bytes reading) where
+    by : (r : Result Ticket ServeFault) → At Q (ticketed peer reading p r)
+    by (Err f) = q
+    by (Ok ticket) = q
   kept_received reading _ p q = q
 
   kept_answered : (reading : ℕ) (place : Place) (p : Progress) → At Q p → At Q (answered_at reading place p)
