@@ -186,8 +186,7 @@ module _ {from : From} {now : Shown} {air : OnAir} {to : List TvEvent → Progre
 
   -- whether a session is open
   sessions_same : air.tv.stage.sessions ≡ sessions_of (calls_of (addresses_in from.run.config) x.events).sessions
-  sessions_same =
-      x.stage.sessions.same ∙ ap (λ (a : Addresses). sessions_of (calls_of a x.events).sessions) x.addresses
+  sessions_same = cc
 
   pub is_live : (peer : ℕ)
       → has peer (live_after from x.events) ≡ is_some (talk_of peer air.tv.stage.sessions.list)
@@ -283,11 +282,8 @@ module _ {from : From} {now : Shown} {air : OnAir} where
   pub unused_of : {to : List TvEvent → Progress} → Airs from now air to → IsUnused now air.tv
   unused_of x = λ peer lt.
       let live = live_after from x.events in
-      let xs = air.peers.items in
-      none_of (talk_of peer air.tv.stage.sessions.list)
-      (sym (is_live x peer)
-      ∙ lists.has-none peer live
-      (lists.below_live peer xs live (lists.below_next now.counts.peers peer xs lt x.knows.below) x.knows.covers))
+      none_of (talk_of peer air.tv.stage.sessions.list) (sym (is_live x peer) ∙ lists.has-none peer live
+      (lists.below_live peer _ live (lists.below_next _ peer _ lt x.knows.below) x.knows.covers))
 
   -- a session comes
   pub welcomes : {next : Shown} → IsAt Served from now air → (peer : ℕ) (kind : PeerKind) (k : Kind)

@@ -27,8 +27,8 @@ peers-preserved-then-is_open g c = record {
       let x = c.peers.invariant.goes from s in
       let e = left_at c.peers.air.peers.items c.peers.at peer (omega (arith, c.peers-test.true)) c.index-peer.ensures in
       left_after from_texts (c.in_ok-hear.ensures from c.peers.air
-      (next_left from_texts c.peers.at x peer e true (is_live x.is_at peer ∙ c.is_open.ensures.0 c.if-is_open.true))) c.peers.at peer
-      (λ live. refl) e;
+      (next_left from_texts c.peers.at x peer e true (is_live x.is_at peer ∙ c.is_open.ensures.0 c.if-is_open.true)))
+      c.peers.at peer (λ live. refl) e;
   turns = c.peers.invariant.turns;
 }
 
