@@ -1,7 +1,7 @@
 -- How a television's run comes on by a call of the outside, by an event, by a line of the script, and from part to part
 -- of its loop.
 use Rattle.std.proofs.Common.{◌≡◌, ℕ, ◌+◌, ◌≤◌, ◌<◌, Bool, false, true, cond, List, [], ◌∷◌, ◌++◌, Option, Some, None}
-use Rattle.std.proofs.Common.{refl, sym, ap, ap₂, subst, ◌∙◌, arith, append_assoc, drop, Result, Ok, Err, length}
+use Rattle.std.proofs.Common.{refl, sym, ap, subst, ◌∙◌, arith, append_assoc, drop, Result, Ok, Err, length}
 use Rattle.std.proofs.Common.{get_or, inl, inr, ◌⊎◌}
 use Rattle.std.specs.Prelude.{◌≢◌, ◌&&◌, ⊤, is_some, ◌↔◌, filter, IfSome}
 use Rattle.std.specs.Option.{option_map, option_to_list}
@@ -22,12 +22,11 @@ use Rattle.css_outside.specs.Outsides.{Counts, CountsPlain, CountsOpening, with_
 use Rattle.css_server.specs.Tickets.{Ticket, response_to, follow_up_for}
 use Rattle.css_sessions.specs.Kept.{Kept, talk_of}
 use Rattle.css_sessions.specs.Told.{sessions_of, life_of}
-use Rattle.css_player.specs.Player.{Player}
 use Rattle.css_player.specs.declared.command.PlayerFault.{PlayerFault}
 use Rattle.css_tv.specs.Serving.{server_of}
 use Rattle.css_tv.specs.Stages.{Stage, Television}
-use Rattle.css_tv.specs.Outcomes.{Outcome, outcome, outcome_at, outs}
-use Rattle.css_tv.specs.Standing.{StandsFor, IsFresh, IsAfterBy, calls_of, player_after}
+use Rattle.css_tv.specs.Outcomes.{Outcome, outcome_at, outs}
+use Rattle.css_tv.specs.Standing.{StandsFor, IsFresh, IsAfterBy, calls_of}
 use Rattle.css_tv.specs.declared.event.TvEvent.{TvEvent}
 use Rattle.css_tv.specs.declared.event.TvEvent.TheVariants as event
 use Rattle.css_tv.specs.declared.event.TvOut.{TvOut}
@@ -187,8 +186,7 @@ module _ {from : From} {now : Shown} {air : OnAir} {to : List TvEvent → Progre
 
   -- whether a session is open
   sessions_same : air.tv.stage.sessions ≡ sessions_of (calls_of (addresses_in from.run.config) x.events).sessions
-  sessions_same =
-      x.stage.sessions.same ∙ ap (λ (a : Addresses). sessions_of (calls_of a x.events).sessions) x.addresses
+  sessions_same = cc
 
   pub is_live : (peer : ℕ)
       → has peer (live_after from x.events) ≡ is_some (talk_of peer air.tv.stage.sessions.list)
@@ -198,11 +196,7 @@ module _ {from : From} {now : Shown} {air : OnAir} {to : List TvEvent → Progre
 
   -- what an event does by the events before it is what it does at the television
   pub outcome_same : (e : TvEvent) → outcome_at e air.tv.stage ≡ outcome_after (addresses_in from.run.config) x.events e
-  outcome_same e =
-      let stage = air.tv.stage in
-      ap₂ (λ (pl : Player) (k : Kept). outcome stage.addresses e pl k) x.stage.player.same x.stage.sessions.same
-      ∙ ap (λ (a : Addresses). outcome a e (player_after a x.events) (sessions_of (calls_of a x.events).sessions))
-      x.addresses
+  outcome_same e = cc
 
 -- A call failed, by which no session comes.
 pub failed : {T : Type 0} {from : From} {now next : Shown} {p : Progress} {h : History} {fault : OutFault}
@@ -267,9 +261,7 @@ heard_of {from} {air = air} {place} {e} {owed} happens tv after done stands serv
     record {
       events = e ∷ x.events;
       h = x.h;
-      history = told_as _ x.history
-          (ap₂ (λ s os. let tv' : Television = record { server = s; stage = tv.stage } in
-          settled a (progress_at from.run (with_tv air tv') place (owed ++ os) (e ∷ x.events))) (sym server) by.0);
+      history = told_as _ x.history (cc by.0);
       addresses = by.1 ∙ x.addresses;
       stage = stands x.events x.stage
           (subst (λ (y : Addresses). IsFresh e (calls_of y x.events).sessions) (sym x.addresses) happens.fresh);
@@ -290,11 +282,8 @@ module _ {from : From} {now : Shown} {air : OnAir} where
   pub unused_of : {to : List TvEvent → Progress} → Airs from now air to → IsUnused now air.tv
   unused_of x = λ peer lt.
       let live = live_after from x.events in
-      let xs = air.peers.items in
-      none_of (talk_of peer air.tv.stage.sessions.list)
-      (sym (is_live x peer)
-      ∙ lists.has-none peer live
-      (lists.below_live peer xs live (lists.below_next now.counts.peers peer xs lt x.knows.below) x.knows.covers))
+      none_of (talk_of peer air.tv.stage.sessions.list) (sym (is_live x peer) ∙ lists.has-none peer live
+      (lists.below_live peer _ live (lists.below_next _ peer _ lt x.knows.below) x.knows.covers))
 
   -- a session comes
   pub welcomes : {next : Shown} → IsAt Served from now air → (peer : ℕ) (kind : PeerKind) (k : Kind)
@@ -579,8 +568,7 @@ module _ (f : Turns → List ℕ → List ℕ → Due) {from : From} {now : Show
               below = lists.below_removed (λ other. other ≤ now.counts.peers) at xs k.below;
               covers = lists.filter_removed (λ other. has other live) at peer xs _ e lacks ∙ k.covers;
             }));
-        next = x.next ∙ ap (λ ys. f air.turns live (filter (λ other. has other live) ys))
-            (sym (lists.drop_removed at peer xs _ e) ∙ ap (drop at) (sym items));
+        next = let d = lists.drop_removed at peer xs _ e in cc;
       }
 
 -- the turns are over

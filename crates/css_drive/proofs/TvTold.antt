@@ -197,9 +197,8 @@ calls_cover e peers n _ covers = covers
 pub event_narrows : (a : Addresses) (e : TvEvent) (es : List TvEvent) → IsNoOpening e → (peers : List ℕ)
     → Covers peers (open_after a es) → Covers peers (open_after a (e ∷ es))
 event_narrows a e es n peers covers =
-    let h = (calls_of a es).sessions in
     subst (λ h. Covers peers (peers_of h)) (sym (sessions_after (outcome_after a es e) (calls_of a es)))
-    (calls_cover e peers n (is_called h a (player_after a es) e (is_fresh e n h)) covers)
+    (calls_cover e {h = (calls_of a es).sessions} peers n (is_called _ a (player_after a es) e (is_fresh e n _)) covers)
 
 -- a session opens, or is hung up at once
 pub event_covers : (a : Addresses) (peer : ℕ) (kind : Kind) (es : List TvEvent) (peers : List ℕ)
@@ -352,9 +351,8 @@ module _ (a : Addresses) (e : TvEvent) (es : List TvEvent) (lawful : IsLawful (c
     (fresh : IsFresh e (calls_of a es).sessions) where
   pub event-lawful : IsLawful (calls_of a (e ∷ es)).sessions
   event-lawful =
-      let h = (calls_of a es).sessions in
       subst IsLawful (sym (sessions_after (outcome_after a es e) (calls_of a es)))
-      (lawful-called (is_called h a (player_after a es) e fresh) lawful)
+      (lawful-called (is_called _ a (player_after a es) e fresh) lawful)
 
   pub event-texts : (peer : ℕ)
       → texts_after a peer (e ∷ es) ≡ reverse (news_of peer (outs_after a es e)) ++ texts_after a peer es
@@ -462,14 +460,13 @@ stands_event : (a : Addresses) (peer : ℕ) (sent : List (List ℕ)) (gone : Boo
     → (new → old × IsOther peer e) → Stands a peer sent gone new (e ∷ es) (news_of peer (owed ++ outs_after a es e))
 stands_event a peer sent gone old new e es owed s none fresh was =
     let now = outs_after a es e in
-    let P : List TvOut → Type 0 =
-    λ os. Telling (life_of peer (calls_of a es).sessions) sent gone (news_of peer os) in
     subst (λ (os : List TvOut). Stands a peer sent gone new (e ∷ es) (news_of peer (os ++ now))) (sym none) (record {
       lawful = event-lawful a e es s.lawful fresh;
       telling = telling_on _ (news_of peer now) (event-texts a e es s.lawful fresh peer)
           (event-few a e es s.lawful fresh peer)
           (λ l over. event_keeps a e es peer (gone_over l) fresh (other_opens peer e _ l fresh over) over)
-          (subst P none s.telling);
+          (subst (λ (os : List TvOut). Telling (life_of peer (calls_of a es).sessions) sent gone (news_of peer os)) none
+          s.telling);
       unused = λ n. event_keeps a e es peer none_over fresh (was n).1 (s.unused (was n).0);
     })
 
@@ -520,13 +517,11 @@ module _ (a : Addresses) (Q : List TvEvent → List TvOut → Type 0) (k : IsKep
     by (Turned reading) = kept_carry (since p.turns) reading p.lines p q
     by _ = q
 
-  kept_ticketed : (peer reading : ℕ) (p : Progress) (r : Result Ticket ServeFault) → At Q p
-      → At Q (ticketed peer reading p r)
-  kept_ticketed peer reading p (Err f) q = q
-  kept_ticketed peer reading p (Ok ticket) q = q
-
   kept_received : (reading : ℕ) (place : Place) (p : Progress) → At Q p → At Q (received_at reading place p)
-  kept_received reading (Taken peer bytes) p q = kept_ticketed peer reading p (received p.server bytes reading) q
+  kept_received reading (Taken peer bytes) p q = by (received p.server bytes reading) where
+    by : (r : Result Ticket ServeFault) → At Q (ticketed peer reading p r)
+    by (Err f) = q
+    by (Ok ticket) = q
   kept_received reading _ p q = q
 
   kept_answered : (reading : ℕ) (place : Place) (p : Progress) → At Q p → At Q (answered_at reading place p)

@@ -65,9 +65,6 @@ IsRead why old new reading =
 abbrev pub Fails : Shown → Shown → Driven → Type 0
 Fails old new ended = (from : From) (p : Progress) (h : History) → Told from old p h → Stops from new ended
 
-abbrev pub Calls : {T : Type 0} → Shown → Shown → (Shown → Shown → T → Type 0) → Result T Driven → Type 0
-Calls old new well result = MatchResult result (well old new) (Fails old new)
-
 -- ---- the loop
 -- how far a run has come whose loop has these values, at a place, with this owed, after these events
 abbrev pub progress_at : TvRun → OnAir → Place → List TvOut → List TvEvent → Progress

@@ -1,4 +1,4 @@
-ghost use Rattle.std.specs.Prelude.{◌≡◌, ◌<◌, ◌∷◌, [], ℕ, List, Some, None, false, IfOk};
+ghost use Rattle.std.specs.Prelude.{◌≡◌, ◌<◌, ◌∷◌, [], ℕ, List, Some, None, false, IfOk, MatchResult};
 ghost use Rattle.css_outside.specs.Faults.{CountsOutFault};
 ghost use Rattle.css_sessions.specs.Kept.{talk_of};
 ghost use Rattle.css_tv.specs.Standing.{IsEvent};
@@ -8,7 +8,7 @@ ghost use Rattle.css_drive.specs.CompanionStanding.{Shown, shown};
 ghost use Rattle.css_drive.specs.Proper.{TakeDatagram, TakeText};
 ghost use Rattle.css_drive.specs.TvProgress.{Place, Taken, Received, Answers, Served, Asked, answering};
 ghost use Rattle.css_drive.specs.TvTurns.{goes_on};
-ghost use Rattle.css_drive.specs.TvStanding.{From, Stops, Fails, Calls, IsRead, IsAt, Settles, Happens, Welcomes};
+ghost use Rattle.css_drive.specs.TvStanding.{From, Stops, Fails, IsRead, IsAt, Settles, Happens, Welcomes};
 ghost use Rattle.css_drive.specs.TvStanding.{Comes, Leads, IsUnused, at_end, with_tv};
 ghost use Rattle.css_drive.specs.declared.on_air.OnAir.{OnAir as Loop};
 
@@ -110,8 +110,9 @@ pub(crate) fn play<O: Outside>(
 
 /// Reads the clock. A television passes over sleeps.
 pub(crate) fn read<O: Outside>(outside: &mut O, why: Why) -> Result<u64, Driven>
-    ensures told { Calls (shown (O.told outside.old) (O.counts outside.old))
-        (shown (O.told outside.new) (O.counts outside.new)) (IsRead why) result }
+    ensures told { let old = shown (O.told outside.old) (O.counts outside.old) in
+        let new = shown (O.told outside.new) (O.counts outside.new) in
+        MatchResult result (IsRead why old new) (Fails old new) }
     ensures below { IfOk result (λ reading. reading < LIMIT) }
 {
     match outside.now(why) {

@@ -14,23 +14,21 @@ peers-init g c = record {
 
 pub returns-in_err-hear-clause-goes : goal.returns-in_err-hear-clause-goes
 returns-in_err-hear-clause-goes g c from s =
-    let i : ℕ = c.peers.at in
     let peer : ℕ = c.index-peer.result.now in
     let x = c.peers.invariant.goes from s in
-    let e = left_at c.peers.air.peers.items i peer (omega (arith, c.peers-test.true)) c.index-peer.ensures in
+    let e = left_at c.peers.air.peers.items c.peers.at peer (omega (arith, c.peers-test.true)) c.index-peer.ensures in
     at_err _ _ _ _ c.from_residual.ensures.1 (c.in_err-hear.ensures from c.peers.air
-    (next_left from_texts i x peer e true (is_live x.is_at peer ∙ c.is_open.ensures.0 c.if-is_open.true)))
+    (next_left from_texts c.peers.at x peer e true (is_live x.is_at peer ∙ c.is_open.ensures.0 c.if-is_open.true)))
 
 pub peers-preserved-then-is_open : goal.peers-preserved-then-is_open
 peers-preserved-then-is_open g c = record {
   goes = λ from s.
-      let i : ℕ = c.peers.at in
       let peer : ℕ = c.index-peer.result.now in
       let x = c.peers.invariant.goes from s in
-      let e = left_at c.peers.air.peers.items i peer (omega (arith, c.peers-test.true)) c.index-peer.ensures in
+      let e = left_at c.peers.air.peers.items c.peers.at peer (omega (arith, c.peers-test.true)) c.index-peer.ensures in
       left_after from_texts (c.in_ok-hear.ensures from c.peers.air
-      (next_left from_texts i x peer e true (is_live x.is_at peer ∙ c.is_open.ensures.0 c.if-is_open.true))) i peer
-      (λ live. refl) e;
+      (next_left from_texts c.peers.at x peer e true (is_live x.is_at peer ∙ c.is_open.ensures.0 c.if-is_open.true)))
+      c.peers.at peer (λ live. refl) e;
   turns = c.peers.invariant.turns;
 }
 

@@ -1,11 +1,8 @@
-use Rattle.std.proofs.Common.{◌≡◌, ◌+◌, sym, subst, ℕ, Some}
+use Rattle.std.proofs.Common.{◌≡◌, sym, subst, Some}
 use Rattle.css_tv.specs.declared.event.TvEvent.{TvEvent}
-use Rattle.css_player.specs.declared.command.PlayerFault.{PlayerFault}
-use Rattle.css_schedule.specs.declared.fault.LineWhy.TheVariants as line_why
 use Rattle.css_drive.specs.CompanionStanding.{shown}
 use Rattle.css_drive.specs.TvProgress.{Turned, event_of}
 use Rattle.css_drive.specs.TvStanding.{Stops, past_line}
-use Rattle.css_drive.specs.declared.driven.Driven.TheVariants as driven
 use Rattle.css_drive.proofs.TvSteps.{heard_of, owing, passed_over, line_happens, line_refused}
 use Rattle.css_drive.proofs.tv_lines.carry_out.Goals as goal
 
@@ -25,11 +22,7 @@ returns-in-Ok g c from air lines x =
 
 pub returns : goal.returns
 returns g c from air lines x =
-    let f : PlayerFault = c.in-Err-Player.fault in
-    let before : ℕ = c.args.before in
-    let now = shown (g.O.Outside.told c.args.outside.now) (g.O.Outside.counts c.args.outside.now) in
     let refused = rw c.in-Err-Player.field-0-is at c.in-Err-Player.ensures.outcome in
-    subst (λ (y : PlayerFault). Stops from now (driven.BadLine (before + 1) (line_why.Player y)))
-    (sym c.in-Err-Player.fault-is)
-    (subst (λ (n : ℕ). Stops from now (driven.BadLine (n + 1) (line_why.Player f))) lines
-    (line_refused x c.in-Ok-Some.event (rw c.in-Ok-Some.field-0-is at c.in-Ok-Some.ensures.value) f refused.2))
+    subst (Stops from (shown (g.O.Outside.told c.args.outside.now) (g.O.Outside.counts c.args.outside.now))) (cc)
+    (line_refused x c.in-Ok-Some.event (rw c.in-Ok-Some.field-0-is at c.in-Ok-Some.ensures.value)
+    c.in-Err-Player.fault refused.2)
