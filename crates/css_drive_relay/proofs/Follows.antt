@@ -228,11 +228,10 @@ module _ (run : RelayRun) (older : History) (each : Followed run older) where
   added : (d : Due) → Fits run (progress_of run older).facts (progress_of run older).place d → (call : History)
       → MayAdd d call → After call
   added (Listen host port) fits call may = subst After (sym may) (fits, each)
-  added (Now w) fits call may = subst After (sym may.1) (by may.0.slept)
-    where
-      by : (b : Bool) → After (clock_entries w (record { reading = may.0.reading; slept = b }))
-      by true = (fits, ((fits.0, fits.1), each))
-      by false = (fits, each)
+  added (Now w) fits call may =
+      subst After (sym may.1)
+      (elim may.0.slept as (λ b. After (clock_entries w (record { reading = may.0.reading; slept = b })))
+      [ true ↦ (fits, ((fits.0, fits.1), each)) | false ↦ (fits, each) ])
   added (Dial k to) fits call (inl may) = subst After (sym may.1) (fits, (fits, each))
   added (Dial k to) fits call (inr may) = subst After (sym may) (fits, (fits, each))
   added Accept fits call may = subst After (sym may.1) (by may.0)
@@ -310,11 +309,8 @@ Moves f place q =
     × ((q.place ≡ place) ⊎ IsRest q.place)
 
 pub rest_moved : (f : Facts) (place : Place) (q : Progress) → Moves f place q → IsRest place → IsRest q.place
-rest_moved f place q m rest = by m.4
-  where
-    by : (q.place ≡ place) ⊎ IsRest q.place → IsRest q.place
-    by (inl same) = subst (λ (x : Place). IsRest x) (sym same) rest
-    by (inr at) = at
+rest_moved f place q m rest =
+    elim m.4 as (λ _. IsRest q.place) [ inl same ↦ subst (λ (x : Place). IsRest x) (sym same) rest | inr at ↦ at ]
 
 pub rest_sent : (place : Place) (f : Facts) → IsRest (places.sent place f).place
 rest_sent (Asking reading) f = tt
