@@ -7,7 +7,6 @@ use Rattle.std.proofs.lemmas.Bool.{and_parts, cond_both}
 use Rattle.std.proofs.lemmas.Bool.Decides.{nat_tests}
 use Rattle.css_address.specs.declared.fault.AddressFault.{AddressFault}
 use Rattle.css_cii.specs.declared.name.CiiName.TheVariants.{WcUrl}
-use Rattle.css_companion.specs.declared.fault.CompanionFault.{CompanionFault}
 use Rattle.css_drive.specs.CompanionDue.{dial_to, dial_first, send_to, refusal_of}
 use Rattle.css_drive.specs.CompanionTurns.{is_late, goes_on, is_asking, turns, first_turn, this_turn, any_dialled}
 use Rattle.css_drive.specs.Proper.{Due, Listen, Now, Dial, Accept, SendDatagram, TakeDatagram, TakeText, SendText}
@@ -357,15 +356,11 @@ module _ (run : RelayRun) (f : Facts) where
 
   moves_heard : (peer : ℕ) (bytes : List ℕ) (older : History) (place : Place)
       → Moves f place (places.heard run peer bytes older place f)
-  moves_heard peer bytes older (Welcomed p) = by (refusal_of (Some bytes) older)
-    where
-      state : State
-      state = relayed run (Heard peer bytes ∷ older)
-
-      by : (x : Option CompanionFault) → Moves f (Welcomed p) (places.television_told x state f)
-      by None =
-          (refl, refl, refl, refl, inr (rest_telling_if (difference_text f.state state) (record f { state = state })))
-      by (Some fault) = (refl, refl, refl, refl, inr tt)
+  moves_heard peer bytes older (Welcomed p) =
+      let state : State = relayed run (Heard peer bytes ∷ older) in
+      let rest = rest_telling_if (difference_text f.state state) (record f { state = state }) in
+      elim (refusal_of (Some bytes) older) as (λ x. Moves f (Welcomed p) (places.television_told x state f))
+      [ None ↦ (refl, refl, refl, refl, inr rest) | Some bad ↦ (refl, refl, refl, refl, inr tt) ]
   moves_heard peer bytes older (Asked left) = (refl, refl, refl, refl, inr tt)
   moves_heard peer bytes older place = (refl, refl, refl, refl, inl refl)
 
@@ -429,16 +424,15 @@ module _ (run : RelayRun) (older : History) (t : Good run older) where
   stays entry same dials q m = record {
     turns = let first = m.0 in let second = m.1 in let third = m.2 in cc (t.turns, same);
     few = let same = m.0 in let few = t.few in omega (arith, same, few);
-    over = λ e. by m.4 e;
+    over = λ e. elim m.4 as (λ _. IsMade run q.facts) [
+      | inl same ↦ made (t.over (subst (λ (x : Place). IsOver x) same e))
+      | inr rest ↦ absurd (over_rest q.place rest e)
+    ];
     dialled = m.3 ∙ t.dialled ∙ sym dials;
   }
     where
       made : IsMade run p.facts → IsMade run q.facts
       made e = let first = m.0 in let second = m.1 in let third = m.2 in cc
-
-      by : (q.place ≡ p.place) ⊎ IsRest q.place → IsOver q.place → IsMade run q.facts
-      by (inl same) e = made (t.over (subst (λ (x : Place). IsOver x) same e))
-      by (inr rest) e = absurd (over_rest q.place rest e)
 
   hung_up : (place : Place) → (IsOver place → IsMade run p.facts) → IsDropped place ⊎ HasEnded run p.facts place
       → IsOver (places.hung_up place p.facts) → IsMade run p.facts
@@ -490,14 +484,11 @@ has_made_all : (run : RelayRun) (h : History) → Good run h
     → HasEnded run (progress_of run h).facts (progress_of run h).place
     → HasMadeAll run h
 has_made_all run h t ended =
-    by (nat_lt x.0 (most_turns run.limit)) (is_late run.limit x.1 x.2) refl refl (is_so ended)
+    by (nat_lt x.0 (most_turns run.limit)) (is_late run.limit x.1 x.2) refl refl
+    (elim ended as (λ _. IsMade run (progress_of run h).facts) [ inl over ↦ t.over over | inr made ↦ made ])
   where
     x : Turns
     x = begun (progress_of run h).facts
-
-    is_so : HasEnded run (progress_of run h).facts (progress_of run h).place → goes_on run.limit x.1 x.2 x.0 ≡ false
-    is_so (inl over) = t.over over
-    is_so (inr made) = made
 
     by : (more last : Bool) → nat_lt x.0 (most_turns run.limit) ≡ more → is_late run.limit x.1 x.2 ≡ last
         → (more && not last) ≡ false → HasMadeAll run h
