@@ -7,7 +7,6 @@ use Rattle.std.proofs.lemmas.Bool.{and_parts, cond_both}
 use Rattle.std.proofs.lemmas.Bool.Decides.{nat_tests}
 use Rattle.css_address.specs.declared.fault.AddressFault.{AddressFault}
 use Rattle.css_cii.specs.declared.name.CiiName.TheVariants.{WcUrl}
-use Rattle.css_companion.specs.declared.fault.CompanionFault.{CompanionFault}
 use Rattle.css_drive.specs.CompanionDue.{dial_to, dial_first, send_to, refusal_of}
 use Rattle.css_drive.specs.CompanionTurns.{is_late, goes_on, is_asking, turns, first_turn, this_turn, any_dialled}
 use Rattle.css_drive.specs.Proper.{Due, Listen, Now, Dial, Accept, SendDatagram, TakeDatagram, TakeText, SendText}
@@ -228,11 +227,10 @@ module _ (run : RelayRun) (older : History) (each : Followed run older) where
   added : (d : Due) → Fits run (progress_of run older).facts (progress_of run older).place d → (call : History)
       → MayAdd d call → After call
   added (Listen host port) fits call may = subst After (sym may) (fits, each)
-  added (Now w) fits call may = subst After (sym may.1) (by may.0.slept)
-    where
-      by : (b : Bool) → After (clock_entries w (record { reading = may.0.reading; slept = b }))
-      by true = (fits, ((fits.0, fits.1), each))
-      by false = (fits, each)
+  added (Now w) fits call may =
+      subst After (sym may.1)
+      (elim may.0.slept as (λ b. After (clock_entries w (record { reading = may.0.reading; slept = b })))
+      [ true ↦ (fits, ((fits.0, fits.1), each)) | false ↦ (fits, each) ])
   added (Dial k to) fits call (inl may) = subst After (sym may.1) (fits, (fits, each))
   added (Dial k to) fits call (inr may) = subst After (sym may) (fits, (fits, each))
   added Accept fits call may = subst After (sym may.1) (by may.0)
@@ -310,11 +308,8 @@ Moves f place q =
     × ((q.place ≡ place) ⊎ IsRest q.place)
 
 pub rest_moved : (f : Facts) (place : Place) (q : Progress) → Moves f place q → IsRest place → IsRest q.place
-rest_moved f place q m rest = by m.4
-  where
-    by : (q.place ≡ place) ⊎ IsRest q.place → IsRest q.place
-    by (inl same) = subst (λ (x : Place). IsRest x) (sym same) rest
-    by (inr at) = at
+rest_moved f place q m rest =
+    elim m.4 as (λ _. IsRest q.place) [ inl same ↦ subst (λ (x : Place). IsRest x) (sym same) rest | inr at ↦ at ]
 
 pub rest_sent : (place : Place) (f : Facts) → IsRest (places.sent place f).place
 rest_sent (Asking reading) f = tt
@@ -361,15 +356,11 @@ module _ (run : RelayRun) (f : Facts) where
 
   moves_heard : (peer : ℕ) (bytes : List ℕ) (older : History) (place : Place)
       → Moves f place (places.heard run peer bytes older place f)
-  moves_heard peer bytes older (Welcomed p) = by (refusal_of (Some bytes) older)
-    where
-      state : State
-      state = relayed run (Heard peer bytes ∷ older)
-
-      by : (x : Option CompanionFault) → Moves f (Welcomed p) (places.television_told x state f)
-      by None =
-          (refl, refl, refl, refl, inr (rest_telling_if (difference_text f.state state) (record f { state = state })))
-      by (Some fault) = (refl, refl, refl, refl, inr tt)
+  moves_heard peer bytes older (Welcomed p) =
+      let state : State = relayed run (Heard peer bytes ∷ older) in
+      let rest = rest_telling_if (difference_text f.state state) (record f { state = state }) in
+      elim (refusal_of (Some bytes) older) as (λ x. Moves f (Welcomed p) (places.television_told x state f))
+      [ None ↦ (refl, refl, refl, refl, inr rest) | Some bad ↦ (refl, refl, refl, refl, inr tt) ]
   moves_heard peer bytes older (Asked left) = (refl, refl, refl, refl, inr tt)
   moves_heard peer bytes older place = (refl, refl, refl, refl, inl refl)
 
@@ -433,16 +424,15 @@ module _ (run : RelayRun) (older : History) (t : Good run older) where
   stays entry same dials q m = record {
     turns = let first = m.0 in let second = m.1 in let third = m.2 in cc (t.turns, same);
     few = let same = m.0 in let few = t.few in omega (arith, same, few);
-    over = λ e. by m.4 e;
+    over = λ e. elim m.4 as (λ _. IsMade run q.facts) [
+      | inl same ↦ made (t.over (subst (λ (x : Place). IsOver x) same e))
+      | inr rest ↦ absurd (over_rest q.place rest e)
+    ];
     dialled = m.3 ∙ t.dialled ∙ sym dials;
   }
     where
       made : IsMade run p.facts → IsMade run q.facts
       made e = let first = m.0 in let second = m.1 in let third = m.2 in cc
-
-      by : (q.place ≡ p.place) ⊎ IsRest q.place → IsOver q.place → IsMade run q.facts
-      by (inl same) e = made (t.over (subst (λ (x : Place). IsOver x) same e))
-      by (inr rest) e = absurd (over_rest q.place rest e)
 
   hung_up : (place : Place) → (IsOver place → IsMade run p.facts) → IsDropped place ⊎ HasEnded run p.facts place
       → IsOver (places.hung_up place p.facts) → IsMade run p.facts
@@ -494,14 +484,11 @@ has_made_all : (run : RelayRun) (h : History) → Good run h
     → HasEnded run (progress_of run h).facts (progress_of run h).place
     → HasMadeAll run h
 has_made_all run h t ended =
-    by (nat_lt x.0 (most_turns run.limit)) (is_late run.limit x.1 x.2) refl refl (is_so ended)
+    by (nat_lt x.0 (most_turns run.limit)) (is_late run.limit x.1 x.2) refl refl
+    (elim ended as (λ _. IsMade run (progress_of run h).facts) [ inl over ↦ t.over over | inr made ↦ made ])
   where
     x : Turns
     x = begun (progress_of run h).facts
-
-    is_so : HasEnded run (progress_of run h).facts (progress_of run h).place → goes_on run.limit x.1 x.2 x.0 ≡ false
-    is_so (inl over) = t.over over
-    is_so (inr made) = made
 
     by : (more last : Bool) → nat_lt x.0 (most_turns run.limit) ≡ more → is_late run.limit x.1 x.2 ≡ last
         → (more && not last) ≡ false → HasMadeAll run h

@@ -317,9 +317,9 @@ module _ {run : RelayRun} {start now next : Shown} {live later : Live} {place : 
       runs_more s (clock_entries w clocked) (may_as is-due (clock_entries w clocked) (clocked, refl)) r.told r.faults q
       (by clocked.slept ∙ ap (λ (f : Facts). after_clock run w clocked.reading (sleep_entries clocked.slept ++ history)
       (record { facts = f; place = place })) (sym r.only) ∙ goes)
-      (known clocked.slept (peers (subst (λ (f : Facts). KnowsPeers (record { facts = f; place = place }) history)
-      (sym r.only) s.peers)))
-      (in_order clocked.slept (subst (λ (n : ℕ). AreInOrder (n + 1) history) (sym r.peers) s.ordered))
+      (elim clocked.slept as (λ slept. KnowsPeers q (entries slept)) [ true ↦ known | false ↦ known ])
+      (elim clocked.slept as (λ slept. AreInOrder (next.counts.peers + 1) (entries slept))
+      [ true ↦ in_order | false ↦ in_order ])
     where
       entries : Bool → History
       entries slept = clock_entries w (record { reading = clocked.reading; slept = slept }) ++ history
@@ -331,14 +331,12 @@ module _ {run : RelayRun} {start now next : Shown} {live later : Live} {place : 
           (record { facts = record x.facts { asked = None }; place = x.place })) s.progress
       by false = ap (after_clock run w clocked.reading history) s.progress
 
-      known : (slept : Bool) → KnowsPeers q history → KnowsPeers q (entries slept)
-      known true x = x
-      known false x = x
+      known : KnowsPeers q history
+      known =
+          peers (subst (λ (f : Facts). KnowsPeers (record { facts = f; place = place }) history) (sym r.only) s.peers)
 
-      in_order : (slept : Bool) → AreInOrder (next.counts.peers + 1) history
-          → AreInOrder (next.counts.peers + 1) (entries slept)
-      in_order true o = o
-      in_order false o = o
+      in_order : AreInOrder (next.counts.peers + 1) history
+      in_order = subst (λ (n : ℕ). AreInOrder (n + 1) history) (sym r.peers) s.ordered
 
   -- and neither for a request nor for a landing
   pub stands_read : Stands run start now was (stood live place) history
@@ -745,19 +743,13 @@ module _ (live : Live) {run : RelayRun} {start now next : Shown} {history : Hist
       → Runs run start next (television_told (refusal_of (Some bytes) history)
       (relayed run (Heard peer bytes ∷ history)) (facts_in live)) (Heard peer bytes ∷ history)
   heard bytes =
-      runs_on s.runs (Heard peer bytes) (session.Text bytes, refl) (λ o. o) (by (refusal_of (Some bytes) history))
-    where
-      state : State
-      state = relayed run (Heard peer bytes ∷ history)
-
-      by : (x : Option CompanionFault) → KnowsPeers (stood live (Welcomed peer)) history
-          → KnowsPeers (television_told x state (facts_in live)) (Heard peer bytes ∷ history)
-      by None x = (
-        x.0,
-        all_telling_if (Came history) (difference_text live.state state) (record (facts_in live) { state = state }) x.0,
-        x.2,
-      )
-      by (Some fault) x = (x.0, All-nil (Came history), x.2)
+      let state : State = relayed run (Heard peer bytes ∷ history) in
+      runs_on s.runs (Heard peer bytes) (session.Text bytes, refl) (λ o. o) (λ x.
+      let told = all_telling_if (Came history) (difference_text live.state state)
+      (record (facts_in live) { state = state }) x.0 in
+      elim (refusal_of (Some bytes) history) as (λ r. KnowsPeers (television_told r state (facts_in live))
+      (Heard peer bytes ∷ history))
+      [ None ↦ (x.0, told, x.2) | Some bad ↦ (x.0, All-nil (Came history), x.2) ])
 
   -- it ends the run
   pub refused : (bytes : List ℕ) → Adds now next (Heard peer bytes ∷ []) → (ended : Driven)

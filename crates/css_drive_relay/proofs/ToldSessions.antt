@@ -44,12 +44,9 @@ any (suc n) = true
 
 has_count : (peer : ℕ) (peers : List ℕ) → has peer peers ≡ any (count peer peers)
 has_count peer [] = refl
-has_count peer (p ∷ ps) = by (eqb p peer) (has_count peer ps)
-  where
-    by : (b : Bool) → has peer ps ≡ any (count peer ps)
-        → (b || has peer ps) ≡ any (cond b (suc (count peer ps)) (count peer ps))
-    by true e = refl
-    by false e = e
+has_count peer (p ∷ ps) =
+    elim (eqb p peer) as (λ b. (b || has peer ps) ≡ any (cond b (suc (count peer ps)) (count peer ps)))
+    [ true ↦ refl | false ↦ has_count peer ps ]
 
 count_without : (peer other : ℕ) (peers : List ℕ)
     → count peer (without other peers) ≡ cond (eqb other peer) 0 (count peer peers)
@@ -260,11 +257,9 @@ publishes : {states : Option SessionStates} {last : State} {sent : List (List �
     (kept : ℕ) {state : State} → Tells states last sent gone ToCome kept [] state → (s : State)
     → Tells (with_state (while_open (Some s) (any kept)) states) s sent gone ToCome kept
     (owed_by (difference_text state s) kept) s
-publishes zero {state} t s = same (over t refl refl) refl (by (difference_text state s)) refl
-  where
-    by : (text : Option (List ℕ)) → [] ≡ owed_by text 0
-    by None = refl
-    by (Some text) = refl
+publishes zero {state} t s =
+    same (over t refl refl) refl
+    (elim (difference_text state s) as (λ x. [] ≡ owed_by x 0) [ None ↦ refl | Some text ↦ refl ]) refl
 publishes (suc zero) {state} t s =
     let o = t.live (omega arith) in
     let was : SessionStates = o.0.0 in
@@ -275,7 +270,9 @@ publishes (suc zero) {state} t s =
           ∙ owes (difference_text state s) (cii_texts was.opening was.later)
           ∙ ap (λ xs. owed_by (difference_text state s) 1 ++ xs) (sym (ap texts_told o.0.1) ∙ t.front);
       few = t.few;
-      within = one (difference_text state s);
+      within =
+          elim (difference_text state s) as (λ x. length (owed_by x 1) ≤ 1)
+          [ None ↦ omega arith | Some text ↦ omega arith ];
       once = t.once;
       published = refl;
       live = λ lt. (
@@ -292,10 +289,6 @@ publishes (suc zero) {state} t s =
     owes : (text : Option (List ℕ)) (xs : List (List ℕ)) → with_text text xs ≡ owed_by text 1 ++ xs
     owes None xs = refl
     owes (Some text) xs = refl
-
-    one : (text : Option (List ℕ)) → length (owed_by text 1) ≤ 1
-    one None = omega arith
-    one (Some text) = omega arith
 publishes (suc (suc n)) t s = absurd (let once = t.once in omega (arith, once))
 
 -- ---- peers
