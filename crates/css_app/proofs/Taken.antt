@@ -246,9 +246,3 @@ no_text left now text status.Memory gives none = tt
 no_text left now text status.ReadFault gives none = tt
 no_text left now text _ gives none =
     (none.0, none.1, λ bytes is. same_reading left now text gives bytes is ∙ none.2 text refl)
-
--- a count of faults that stays 0 tells no failed read, of whatever source
-pub no_read_fault : (result : Status) (before now : ℕ) → CountsReads 0 0 result → now ≡ before
-    → CountsReads before now result
-no_read_fault status.ReadFault before now none same = absurd (omega (arith, none.risen (omega arith)))
-no_read_fault _ before now none same = same

@@ -1,6 +1,4 @@
 use Rattle.std.proofs.Common.{refl}
-use Rattle.css_replay.proofs.OverLines.{stop_ends}
-use Rattle.css_app.specs.Ended.{line_refused}
 use Rattle.css_app.specs.Live.{bad_line}
 use Rattle.css_app.specs.Scripts.{script_in, script_lines, why_of}
 use Rattle.css_app.proofs.Taken.{gives-script, none_at, script-bad}
@@ -15,9 +13,3 @@ returns-clause-value g c =
     rw c.line_status.ensures
     (none_at script_in (λ bad. bad) bad_line (λ bad. tt) script_lines (λ line why. (line, why_of why)) script-bad
     _ _ _ _ (λ bad all. (bad, refl, all)) c.in-Err.stop run.counted_writes run.ran)
-
-pub returns-clause-counted : goal.returns-clause-counted
-returns-clause-counted g c =
-    let run = c.in-Err.ensures in
-    rw c.line_status.ensures
-    (stop_ends line_refused (λ line why. tt) c.in-Err.stop run.counted_reads run.counted_writes).reads

@@ -1,6 +1,6 @@
 use Rattle.std.proofs.Common.{ap, ◌∙◌}
 use Rattle.std.specs.Prelude.{Some}
-use Rattle.css_app.proofs.Taken.{gives_text, is_script, no_text, no_read_fault}
+use Rattle.css_app.proofs.Taken.{gives_text, is_script, no_text}
 use Rattle.css_app.proofs.inputs.take_script_text.Goals as goal
 
 pub returns-in-Ok-take_script-clause-value : goal.returns-in-Ok-take_script-clause-value
@@ -14,7 +14,3 @@ pub returns-in-Err-take_script-clause-value : goal.returns-in-Err-take_script-cl
 returns-in-Err-take_script-clause-value g c =
     no_text _ _ c.in-Ok.text.items c.in-Err-take_script.status c.in-Ok.ensures.value
     (rw (c.in-Ok-new.ensures, c.deref.ensures.value) at c.in-Err-take_script.ensures.value)
-
-pub returns-in-Err-take_script-clause-counted : goal.returns-in-Err-take_script-clause-counted
-returns-in-Err-take_script-clause-counted g c =
-    no_read_fault c.in-Err-take_script.status _ _ c.in-Err-take_script.ensures.counted c.in-Ok.ensures.counted

@@ -8,7 +8,6 @@ use Rattle.css_lines.specs.declared.reader.Refusal.{Refusal}
 use Rattle.css_lines.specs.Lines.{lines_of}
 use Rattle.css_lines.specs.Meaning.{Outcome, outcome}
 use Rattle.css_replay.specs.declared.status.Status.TheVariants.{BadSheet}
-use Rattle.css_replay.proofs.OverLines.{stop_ends}
 use Rattle.css_app.proofs.Taken.{none_at}
 use Rattle.css_app.proofs.inputs.take_sheet.Goals as goal
 
@@ -35,10 +34,3 @@ returns-clause-value g c =
     (none_at sheet_in Line BadSheet (λ bad. tt) sheet_lines (λ line why. line) sheet-bad _ _ _ _
     (λ bad all. (bad, refl, all)) c.in-Err.stop
     run.counted_writes run.ran)
-
-pub returns-clause-counted : goal.returns-clause-counted
-returns-clause-counted g c =
-    let run = c.in-Err.ensures in
-    rw c.sheet_status.ensures
-    (stop_ends (λ line why. BadSheet line) (λ line why. tt) c.in-Err.stop run.counted_reads
-    run.counted_writes).reads

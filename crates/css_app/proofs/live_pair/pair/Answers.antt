@@ -1,4 +1,4 @@
-use Rattle.std.proofs.Common.{◌∙◌, arith, inl, inr, refl}
+use Rattle.std.proofs.Common.{◌∙◌, inl, inr, refl}
 use Rattle.css_app.specs.Live.{bad_line, driven_status}
 use Rattle.css_app.specs.Scripts.{script_in}
 use Rattle.css_app.proofs.LiveEnds.{as_due, both_tell, driven_tells, pairs_as_due, running_after}
@@ -16,31 +16,6 @@ returns-in-Err g c =
       counted = none.tells _ _ _;
       no_usage = none.no_usage;
     }
-
--- memory ran out before a child was started
--- the child was not started
-pub returns-in-Err-Failed-clause-ran : goal.returns-in-Err-Failed-clause-ran
-returns-in-Err-Failed-clause-ran g c =
-    let start = c.in-Err-Failed.ensures in
-    inr (record {
-      text = c.in-Ok.script.items;
-      gives = c.in-Ok.ensures.value;
-      beside = inl (((refl, refl, c.prepare.ensures.same_seen), start.told, start.err), tt);
-    })
-
-pub returns-in-Err-Failed-clause-complete : goal.returns-in-Err-Failed-clause-complete
-returns-in-Err-Failed-clause-complete g c bytes script is ok read wrote called spawned =
-    let risen = rw c.in-Err-Failed.field-0-is at c.in-Err-Failed.ensures.counted in
-    absurd (omega (arith, risen.risen spawned.below, spawned.same))
-
-pub returns-in-Err-Memory-clause-ran : goal.returns-in-Err-Memory-clause-ran
-returns-in-Err-Memory-clause-ran g c =
-    let start = c.in-Err-Memory.ensures in
-    inr (record {
-      text = c.in-Ok.script.items;
-      gives = c.in-Ok.ensures.value;
-      beside = inl (((refl, refl, c.prepare.ensures.same_seen), start.told, start.err), tt);
-    })
 
 -- the child was started
 pub returns : goal.returns

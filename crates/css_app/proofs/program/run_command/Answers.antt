@@ -24,12 +24,6 @@ returns-else-words-clause-does g c = rw (c.in-Ok-Companion.is, c.in-Ok-Companion
   λ recorded. absurd (cc),
 )
 
-pub returns-in-Ok-Tv-clause-does : goal.returns-in-Ok-Tv-clause-does
-returns-in-Ok-Tv-clause-does g c = rw (c.in-Ok-Tv.is, c.in-Ok-Tv.field-0-is) (record {
-  ran = rw c.tv_run_of.ensures.asked at c.tv.ensures.ran;
-  complete = rw c.tv_run_of.ensures.asked at c.tv.ensures.complete;
-})
-
 pub returns-in-Ok-clause-does : goal.returns-in-Ok-clause-does
 returns-in-Ok-clause-does g c = rw (c.in-Ok-Pair.is, c.in-Ok-Pair.field-0-is) (record {
   ran = as_asked _ c.in-Ok.ensures.run (rw c.in-Ok.ensures.child at c.pair.ensures.ran);
