@@ -38,7 +38,7 @@ use Rattle.css_drive.specs.CompanionDue.{unless_refused, refusal_of, end_by}
 use Rattle.css_drive.specs.CompanionStanding.{Shown, Facts, facts_of, facts_in, KnowsPeers, Stands, Knows, GivesPlace}
 use Rattle.css_drive.specs.CompanionStanding.{asked_after, IsRefusal, HasRead, Comes, Stops, dial_entries}
 use Rattle.css_drive.specs.CompanionStanding.{Adds, HasDialled, IsDue, Goes, from_text, after_text, open_of}
-use Rattle.css_drive.specs.CompanionTurns.{dialled, opened, asked_turn, is_peer, unless, is_asking}
+use Rattle.css_drive.specs.CompanionTurns.{dialled, opened, asked_turn, is_peer, is_asking}
 use Rattle.css_drive.specs.Ends.{MayEnd}
 use Rattle.css_drive.specs.Notes as notes
 use Rattle.css_drive.specs.Notes.{Note, noted, session_at, session_with, with_event, slept_notes, landing_notes}
@@ -232,40 +232,8 @@ other_open history None is other p opens k never = refl
 other_open history (Some q) is other p opens k never =
     ne_eqb q p (λ e. never (sym (opens q refl) ∙ ap (λ x. kind_of x history) e ∙ k))
 
-same_open : (p : ℕ) (o : Option ℕ) → o ≡ Some p → is_peer o p ≡ true
-same_open p o e = ap (λ x. is_peer x p) e ∙ eq-eqb p p refl
-
--- a session that ends is over, and no other
-abbrev pub closed : ℕ → Facts → Facts
-closed p x = record x {
-  cii_open = unless (is_peer x.cii_open p) x.cii_open;
-  ts_open = unless (is_peer x.ts_open p)
-      x.ts_open;
-}
-
 module _ {config : DriveConfig} {before now : Shown} {saw : List Note → Type 0} {live : Live} {history : History}
     (s : Stands config before now saw live history) where
-  shut : (b d : Bool) → Facts
-  shut b d = record (facts_in live) { cii_open = unless b live.cii_open; ts_open = unless d live.ts_open }
-
-  pub ts_over : {p : ℕ} → live.ts_open ≡ Some p → closed p (facts_of config history) ≡ record (facts_in live)
-      { ts_open = None }
-  unfolding shut
-  ts_over {p} e =
-      ap {A = Facts} (closed p) s.facts
-      ∙ ap (λ b. shut b (is_peer live.ts_open p))
-      (other_open history live.cii_open kind.Cii kind.Ts p (λ q x. open_cii s x) (open_ts s e) (λ x. cc))
-      ∙ ap (λ d. shut false d) (same_open p live.ts_open e)
-
-  pub cii_over : {p : ℕ} → live.cii_open ≡ Some p → closed p (facts_of config history) ≡ record (facts_in live)
-      { cii_open = None }
-  unfolding shut
-  cii_over {p} e =
-      ap {A = Facts} (closed p) s.facts
-      ∙ ap (λ b. shut b (is_peer live.ts_open p)) (same_open p live.cii_open e)
-      ∙ ap (λ d. shut true d)
-      (other_open history live.ts_open kind.Ts kind.Cii p (λ q x. open_ts s x) (open_cii s e) (λ x. cc))
-
   -- ---- which session it is
   pub cii_at : {p : ℕ} → live.cii_open ≡ Some p → session_at p history ≡ Some session.Cii
   cii_at {p} e =
