@@ -36,9 +36,9 @@ use Rattle.css_drive.specs.CompanionDue.{due, dial_to, dial_first, take_text, pl
 use Rattle.css_drive.specs.CompanionDue.{from_ts, from_ask, from_take, from_cii_text, from_ts_text, from_end}
 use Rattle.css_drive.specs.CompanionDue.{unless_refused, refusal_of, end_by}
 use Rattle.css_drive.specs.CompanionStanding.{Shown, Facts, facts_of, facts_in, KnowsPeers, Stands, Knows, GivesPlace}
-use Rattle.css_drive.specs.CompanionStanding.{asked_after, IsRefusal, HasRead, Comes, Stops, dial_entries}
-use Rattle.css_drive.specs.CompanionStanding.{Adds, HasDialled, IsDue, Goes, from_text, after_text, open_of}
-use Rattle.css_drive.specs.CompanionTurns.{dialled, opened, asked_turn, is_peer, unless, is_asking}
+use Rattle.css_drive.specs.CompanionStanding.{asked_after, IsRefusal, HasRead, Stops, dial_entries}
+use Rattle.css_drive.specs.CompanionStanding.{Adds, Goes, from_text, after_text, open_of}
+use Rattle.css_drive.specs.CompanionTurns.{dialled, asked_turn, is_peer, is_asking}
 use Rattle.css_drive.specs.Ends.{MayEnd}
 use Rattle.css_drive.specs.Notes as notes
 use Rattle.css_drive.specs.Notes.{Note, noted, session_at, session_with, with_event, slept_notes, landing_notes}
@@ -51,7 +51,7 @@ use Rattle.css_drive.specs.declared.config.DriveConfig.{DriveConfig}
 use Rattle.css_drive.specs.declared.driven.Driven.{Driven}
 use Rattle.css_drive.specs.declared.driven.Driven.TheVariants as driven
 use Rattle.css_drive.proofs.CompanionSteps.{opened_dialled, peers_later, stands_saw, stands_adds}
-use Rattle.css_drive.proofs.CompanionSteps.{stands_tried, stops_here, ends_by, IsOwn, comes, stops_by_memory}
+use Rattle.css_drive.proofs.CompanionSteps.{stops_here, ends_by, IsOwn, comes, stops_by_memory}
 
 -- the address of the wall clock that is told
 abbrev pub wc_place : State → Option (Result Address AddressFault)
@@ -232,40 +232,8 @@ other_open history None is other p opens k never = refl
 other_open history (Some q) is other p opens k never =
     ne_eqb q p (λ e. never (sym (opens q refl) ∙ ap (λ x. kind_of x history) e ∙ k))
 
-same_open : (p : ℕ) (o : Option ℕ) → o ≡ Some p → is_peer o p ≡ true
-same_open p o e = ap (λ x. is_peer x p) e ∙ eq-eqb p p refl
-
--- a session that ends is over, and no other
-abbrev pub closed : ℕ → Facts → Facts
-closed p x = record x {
-  cii_open = unless (is_peer x.cii_open p) x.cii_open;
-  ts_open = unless (is_peer x.ts_open p)
-      x.ts_open;
-}
-
 module _ {config : DriveConfig} {before now : Shown} {saw : List Note → Type 0} {live : Live} {history : History}
     (s : Stands config before now saw live history) where
-  shut : (b d : Bool) → Facts
-  shut b d = record (facts_in live) { cii_open = unless b live.cii_open; ts_open = unless d live.ts_open }
-
-  pub ts_over : {p : ℕ} → live.ts_open ≡ Some p → closed p (facts_of config history) ≡ record (facts_in live)
-      { ts_open = None }
-  unfolding shut
-  ts_over {p} e =
-      ap {A = Facts} (closed p) s.facts
-      ∙ ap (λ b. shut b (is_peer live.ts_open p))
-      (other_open history live.cii_open kind.Cii kind.Ts p (λ q x. open_cii s x) (open_ts s e) (λ x. cc))
-      ∙ ap (λ d. shut false d) (same_open p live.ts_open e)
-
-  pub cii_over : {p : ℕ} → live.cii_open ≡ Some p → closed p (facts_of config history) ≡ record (facts_in live)
-      { cii_open = None }
-  unfolding shut
-  cii_over {p} e =
-      ap {A = Facts} (closed p) s.facts
-      ∙ ap (λ b. shut b (is_peer live.ts_open p)) (same_open p live.cii_open e)
-      ∙ ap (λ d. shut true d)
-      (other_open history live.ts_open kind.Ts kind.Cii p (λ q x. open_ts s x) (open_cii s e) (λ x. cc))
-
   -- ---- which session it is
   pub cii_at : {p : ℕ} → live.cii_open ≡ Some p → session_at p history ≡ Some session.Cii
   cii_at {p} e =
@@ -280,44 +248,6 @@ module _ {config : DriveConfig} {before now : Shown} {saw : List Note → Type 0
       (open_ts s e) (λ x. cc))
       ∙ ap (λ o. cond (is_peer o p) (Some session.Ts) None) (ts_last s e)
       ∙ ap (λ b. cond b (Some session.Ts) None) (eq-eqb p p refl)
-
-  -- ---- dials that went so
-  none_open : (o : Option ℕ) → opened kind.Cii history ≡ o → dialled kind.Cii history ≡ None → o ≡ None
-  none_open None e none = refl
-  none_open (Some p) e none = let was = opened_dialled kind.Cii history p e in cc
-
-  pub cii_dialled : due config history ≡ from_cii config history → live.cii ≡ None → {companion : Companion}
-      → Knows config companion history → (tried : Option ℕ) → {next : Shown}
-      → HasDialled now next kind.Cii config.cii tried → {after : List Note → Type 0}
-      → after (dial_notes (standpoint config (Dialling kind.Cii config.cii ∷ history)) kind.Cii tried
-      ++ noted config history)
-      → (later : Live) → facts_in later ≡ record (facts_in live) { cii = tried; cii_open = tried }
-      → Comes config before next after later companion (IsDue config from_wc)
-  cii_dialled d none k None t notes later is =
-      let no : dialled kind.Cii history ≡ None = ap {A = Facts} (λ x. x.cii) s.facts ∙ none in
-      let shut : live.cii_open ≡ None = sym (ap {A = Facts} (λ x. x.cii_open) s.facts) ∙ none_open _ refl no in
-      comes (stands_tried s kind.Cii config.cii (cii_due s d none) None t notes later (s.facts
-      ∙ ap {A = Option ℕ} {B = Facts} (λ o. record (facts_in live) { cii = o }) none
-      ∙ ap {A = Option ℕ} {B = Facts} (λ o. record (facts_in live) { cii = None; cii_open = o }) shut ∙ sym is))
-      (knows_tried kind.Cii config.cii None tt k) _ refl
-  cii_dialled d none k (Some p) t notes later is =
-      comes (stands_tried s kind.Cii config.cii (cii_due s d none) (Some p) t notes later
-      (ap {A = Facts} (λ x. record x { cii = Some p; cii_open = Some p }) s.facts ∙ sym is))
-      (knows_tried kind.Cii config.cii (Some p) refl k) _ refl
-
-  pub wc_dialled : {to : Address} → due config history ≡ Dial kind.Wc to → live.wc ≡ None → {companion : Companion}
-      → Knows config companion history → (tried : Option ℕ) → {next : Shown}
-      → HasDialled now next kind.Wc to tried → {after : List Note → Type 0}
-      → after (dial_notes (standpoint config (Dialling kind.Wc to ∷ history)) kind.Wc tried ++ noted config history)
-      → (later : Live) → facts_in later ≡ record (facts_in live) { wc = tried }
-      → Comes config before next after later companion (IsDue config from_ts)
-  wc_dialled {to} d none k None t notes later is =
-      comes (stands_tried s kind.Wc to d None t notes later (s.facts
-      ∙ ap {A = Option ℕ} {B = Facts} (λ o. record (facts_in live) { wc = o }) none ∙ sym is))
-      (knows_tried kind.Wc to None tt k) _ refl
-  wc_dialled {to} d none k (Some p) t notes later is =
-      comes (stands_tried s kind.Wc to d (Some p) t notes later
-      (ap {A = Facts} (λ x. record x { wc = Some p }) s.facts ∙ sym is)) (knows_tried kind.Wc to (Some p) refl k) _ refl
 
 -- ---- notes
 pub heard_noted : (config : DriveConfig) (p : ℕ) (answer : Answer) (which : Session) (history : History)
@@ -470,17 +400,14 @@ pub told_goes : {T : Type 0} {config : DriveConfig} {before now : Shown} {saw : 
 told_goes s lawful over is at next (Ok value) told memory = comes s told (at value) (next value)
 told_goes s lawful over is at next (Err ended) told memory = stops_by_memory s lawful over ended memory
 
--- ---- addresses
 -- a bad address ends the run
-pub bad_place : (property : CiiName) (told : Option (Result Address AddressFault)) (k : Kind) (rest : Due) (ended :
-    Driven)
-    → GivesPlace property told (Err ended) → MayEnd (dial_to None k property told rest) ended
-bad_place property told k rest driven.Memory g = tt
-bad_place property told k rest _ g =
-    let P : Driven → Type 0 = λ x. MayEnd (dial_to None k property told rest) x in
-    subst P (sym g.1) (ap (λ x. dial_to None k property x rest) g.2)
-
-pub bad_own : (property : CiiName) (told : Option (Result Address AddressFault)) (ended : Driven)
-    → GivesPlace property told (Err ended) → IsOwn ended
-bad_own property told driven.Memory g = tt
-bad_own property told _ g = subst IsOwn (sym g.1) tt
+pub bad_stops : {config : DriveConfig} {before now : Shown} {saw : List Note → Type 0} {live : Live}
+    {history : History} → Stands config before now saw live history → IsLawful history → {over : Option OutFault}
+    → (property : CiiName) (told : Option (Result Address AddressFault)) (k : Kind) (rest : Due) (ended : Driven)
+    → GivesPlace property told (Err ended) → due config history ≡ dial_to None k property told rest
+    → Stops config before now saw over ended
+bad_stops s lawful property told k rest driven.Memory g d = stops_by_memory s lawful _ driven.Memory refl
+bad_stops {config} {before} {now} {saw} s lawful {over} property told k rest _ g d =
+    let P : Driven → Type 0 = λ x. Stops config before now saw over x in
+    subst P (sym g.1) (stops_here s lawful over (driven.BadUrl property) tt (d
+    ∙ ap (λ x. dial_to None k property x rest) g.2))

@@ -1,6 +1,6 @@
 -- How a turn begins, and how a run ends.
-use Rattle.std.proofs.Common.{◌≡◌, ℕ, ◌+◌, ◌<◌, ◌≤◌, arith, ap, sym, ◌∙◌, refl, Bool, true, false, cond, List}
-use Rattle.std.proofs.Common.{[], ◌∷◌, ◌++◌, length, Option, Some, None, add-one}
+use Rattle.std.proofs.Common.{◌≡◌, ℕ, ◌+◌, ◌<◌, ◌≤◌, arith, ap, sym, ◌∙◌, subst, refl, Bool, true, false, cond, List}
+use Rattle.std.proofs.Common.{[], ◌∷◌, length, Option, Some, None, add-one, eq-eqb}
 use Rattle.std.proofs.lemmas.Bool.{ltb-true}
 use Rattle.std.proofs.lemmas.Grind.{common_steps}
 use Rattle.std.specs.Prelude.{is_some, nat_lt, not, ◌||◌, ◌&&◌, unwrap_or}
@@ -11,24 +11,25 @@ use Rattle.css_model.specs.History.{Clock, Dialled, HungUp, History}
 use Rattle.css_outside.specs.Limits.{most_turns, IsLimit}
 use Rattle.css_outside.specs.declared.limit.Limit.{Limit}
 use Rattle.css_outside.specs.declared.limit.Limit.TheVariants as limit
+use Rattle.css_outside.specs.declared.fault.OutFault.{OutFault}
 use Rattle.css_companion.specs.declared.report.Report.{Report}
 use Rattle.css_companion.proofs.Headline as headline
 use Rattle.css_drive.specs.CompanionDue.{due, hang_up, from_hang_ups, from_turn, from_cii, from_end, final, is_short}
 use Rattle.css_drive.specs.CompanionReports.{due_reports, report_at, is_due, IsPromisedAt, KeepsPromises}
 use Rattle.css_drive.specs.CompanionStanding.{Shown, Facts, facts_of, facts_in, Stands}
-use Rattle.css_drive.specs.CompanionStanding.{IsHangingUp, Adds, ending_of, is_another}
-use Rattle.css_drive.specs.CompanionStanding.{hung as closing}
+use Rattle.css_drive.specs.CompanionStanding.{IsHangingUp, Hangs, Stops, Adds, ending_of, is_another, open_of, still, without}
 use Rattle.css_drive.specs.CompanionTurns.{turn_at, first_turn, turns, first_of, counted, is_late, goes_on}
-use Rattle.css_drive.specs.CompanionTurns.{dialled, any_dialled}
+use Rattle.css_drive.specs.CompanionTurns.{dialled, any_dialled, unless}
 use Rattle.css_drive.specs.Ends.{MayEnd}
 use Rattle.css_drive.specs.Notes.{Note, Happened, Reported, Turn, noted, standpoint}
-use Rattle.css_drive.specs.Proper.{Due, Now, HangUp, Ends}
+use Rattle.css_drive.specs.Proper.{Now, HangUp, Ends}
 use Rattle.css_drive.specs.declared.companion_live.Live.{Live}
 use Rattle.css_drive.specs.declared.config.DriveConfig.{DriveConfig}
 use Rattle.css_drive.specs.declared.driven.Driven.{Driven}
 use Rattle.css_drive.specs.declared.driven.Driven.TheVariants as driven
-use Rattle.css_drive.proofs.CompanionSteps.{IsOwn, told_more, peers_later, stands_adds}
-use Rattle.css_drive.proofs.CompanionCalls as calls
+use Rattle.css_drive.specs.declared.session.Session.{Session}
+use Rattle.css_drive.specs.declared.session.Session.TheVariants as session
+use Rattle.css_drive.proofs.CompanionSteps.{IsOwn, stands_adds, stops_here, ends_by}
 
 -- ---- a turn
 -- what a turn's reading makes of the facts, and its notes, where a report is due and where none is
@@ -189,6 +190,15 @@ module _ {config : DriveConfig} {before now : Shown} {saw : List Note → Type 0
       ∙ ap (λ b. b && goes_on config.limit live.first live.turn live.made) (sym (is_fewer _ _ few)) ∙ last)
 
 -- ---- hanging up
+over_is : (p : ℕ) (o : Option ℕ) → o ≡ Some p → still o p ≡ None
+over_is p o e = ap (λ x. still x p) e ∙ ap (λ b. unless b (Some p)) (eq-eqb p p refl)
+
+-- a session that ends is over
+pub shut : (which : Session) (was is : Live) {p : ℕ} → facts_in is ≡ without p (facts_in was)
+    → open_of which was ≡ Some p → open_of which is ≡ None
+shut session.Cii was is {p} over e = ap {A = Facts} (λ x. x.cii_open) over ∙ over_is p was.cii_open e
+shut session.Ts was is {p} over e = ap {A = Facts} (λ x. x.ts_open) over ∙ over_is p was.ts_open e
+
 -- where the sessions are hung up the run may end so
 pub final_ends : (config : DriveConfig) (history : History)
     → MayEnd (Ends (final config history)) (final config history) × IsOwn (final config history)
@@ -200,39 +210,18 @@ final_ends config history = by (is_short config history) (any_dialled history)
     by true false = (refl, tt)
     by false any = (refl, tt)
 
--- the run hangs up the sessions that are open, to end so
-pub record Hangs (config : DriveConfig) (before now : Shown) (saw : List Note → Type 0) (live : Live) (end : Driven)
-    : Type 0 where
-  pub history : History
-  pub stands : Stands config before now saw live history
-  pub lawful : IsLawful history
-  pub hanging : IsHangingUp config end history
-
 module _ {config : DriveConfig} {before now : Shown} {saw : List Note → Type 0} {live : Live} {end : Driven}
     (x : Hangs config before now saw live end) where
-  hung : {next : Shown} → (o : Option ℕ) (rest : Due) → due config x.history ≡ hang_up o rest
-      → Adds now next (closing o) → (later : Live) → facts_of config (closing o ++ x.history) ≡ facts_in later
-      → Hangs config before next saw later end
-  hung None rest d adds later facts = record {
-    history = x.history;
-    stands = record {
-      told = told_more _ _ _ [] x.history x.stands.told adds.told;
-      faults = ap (λ y. y.faults) adds.same ∙ x.stands.faults;
-      proper = x.stands.proper;
-      facts = facts;
-      peers = let same = ap (λ y. y.peers) adds.same in peers_later _ _ x.history (omega (arith, same)) x.stands.peers;
-      saw_so = x.stands.saw_so;
-    };
-    lawful = x.lawful;
-    hanging = x.hanging;
-  }
-  hung (Some q) rest d adds later facts = record {
-    history = HungUp q ∷ x.history;
+  pub hung : {p : ℕ} → due config x.history ≡ HangUp p → {next : Shown} → Adds now next (HungUp p ∷ [])
+      → {later : Live} → facts_in later ≡ without p (facts_in live) → Hangs config before next saw later end
+  hung {p} d adds {later} is = record {
+    history = HungUp p ∷ x.history;
     stands =
-        stands_adds x.stands (HangUp q) d (HungUp q ∷ []) refl x.stands.peers adds x.stands.saw_so later facts;
+        stands_adds x.stands (HangUp p) d (HungUp p ∷ []) refl x.stands.peers adds x.stands.saw_so later (ap (without p)
+        x.stands.facts ∙ sym is);
     lawful = record { rises = (tt, x.lawful.rises); asks = (tt, x.lawful.asks) };
     hanging = record {
-      first = ap (λ y. from_hang_ups y (HungUp q ∷ x.history)) x.hanging.final_so;
+      first = ap (λ y. from_hang_ups y (HungUp p ∷ x.history)) x.hanging.final_so;
       final_so = x.hanging.final_so;
     };
   }
@@ -241,22 +230,14 @@ module _ {config : DriveConfig} {before now : Shown} {saw : List Note → Type 0
   pub left : due config x.history ≡ hang_up live.cii_open (hang_up live.ts_open (Ends end))
   left = x.hanging.first ∙ ap {A = Facts} (λ y. hang_up y.cii_open (hang_up y.ts_open (Ends end))) x.stands.facts
 
-  pub hung_cii : {next : Shown} → Adds now next (closing live.cii_open)
-      → Hangs config before next saw (record live { cii_open = None }) end
-  hung_cii adds = hung live.cii_open _ left adds _ (by live.cii_open refl)
-    where
-      by : (o : Option ℕ) → live.cii_open ≡ o
-          → facts_of config (closing o ++ x.history) ≡ record (facts_in live) { cii_open = None }
-      by None e = x.stands.facts ∙ ap {A = Option ℕ} {B = Facts} (λ y. record (facts_in live) { cii_open = y }) e
-      by (Some q) e = calls.cii_over x.stands e
+  pub cii_shut : live.cii_open ≡ None → due config x.history ≡ hang_up live.ts_open (Ends end)
+  cii_shut none = left ∙ ap (λ o. hang_up o (hang_up live.ts_open (Ends end))) none
 
-  pub hung_ts : {next : Shown} → live.cii_open ≡ None → Adds now next (closing live.ts_open)
-      → Hangs config before next saw (record live { ts_open = None }) end
-  hung_ts none adds =
-      hung live.ts_open (Ends end) (left ∙ ap (λ o. hang_up o (hang_up live.ts_open (Ends end))) none) adds _
-      (by live.ts_open refl)
-    where
-      by : (o : Option ℕ) → live.ts_open ≡ o
-          → facts_of config (closing o ++ x.history) ≡ record (facts_in live) { ts_open = None }
-      by None e = x.stands.facts ∙ ap {A = Option ℕ} {B = Facts} (λ y. record (facts_in live) { ts_open = y }) e
-      by (Some q) e = calls.ts_over x.stands e
+  -- the run ends where none is left
+  pub hung_up : live.cii_open ≡ None → live.ts_open ≡ None → {over : Option OutFault}
+      → Stops config before now saw over end
+  hung_up no_cii no_ts =
+      let P : Driven → Type 0 = λ y. MayEnd (Ends y) y × IsOwn y in
+      let may = subst P x.hanging.final_so (final_ends config x.history) in
+      stops_here x.stands x.lawful _ end may.1 (ends_by _ _ end (cii_shut no_cii ∙ ap (λ o. hang_up o (Ends end)) no_ts)
+      may.0)

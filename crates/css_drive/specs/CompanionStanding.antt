@@ -7,7 +7,7 @@ use Rattle.css_model.specs.declared.Why.{Why}
 use Rattle.css_model.specs.declared.Kind.{Kind}
 use Rattle.css_model.specs.declared.Kind.TheVariants as kind
 use Rattle.css_model.specs.Explains.{IsLawful}
-use Rattle.css_model.specs.History.{Address, Dialling, Dialled, NotDialled, HungUp, History}
+use Rattle.css_model.specs.History.{Address, Dialling, Dialled, NotDialled, History}
 use Rattle.css_outside.specs.Faults.{HasRisen}
 use Rattle.css_outside.specs.Outsides.{Counts, with_entries, clock_entries, sleep_entries}
 use Rattle.css_outside.specs.declared.calls.Clocked.{Clocked}
@@ -304,9 +304,13 @@ pub record IsHangingUp (config : DriveConfig) (end : Driven) (history : History)
   pub first : due config history ≡ from_hang_ups end history
   pub final_so : final config history ≡ end
 
-abbrev pub hung : Option ℕ → History
-hung None = []
-hung (Some peer) = HungUp peer ∷ []
+-- the run hangs up the sessions that are open, to end so
+pub record Hangs (config : DriveConfig) (before now : Shown) (saw : List Note → Type 0) (live : Live) (end : Driven)
+    : Type 0 where
+  pub history : History
+  pub stands : Stands config before now saw live history
+  pub lawful : IsLawful history
+  pub hanging : IsHangingUp config end history
 
 -- ---- runs
 -- An observer's run ended so: it saw all, but where a write failed or memory ran out.

@@ -61,11 +61,14 @@ impl<O: Outside, W: Observes> Run<'_, O, W> {
         ensures tried { OnOk result (self.new.live.cii ≡ None
             → HasRisen (O.counts self.old.outside.now).dial_faults (O.counts self.new.outside.now).dial_faults) }
     {
-        if self.live.cii.is_some() {
+        let None = self.live.cii else {
             return Ok(());
-        }
-        self.live.cii = try_dial(self.outside, self.observer, Kind::Cii, &config.cii)?;
-        self.live.cii_open = self.live.cii;
+        };
+        let Some(peer) = try_dial(self.outside, self.observer, Kind::Cii, &config.cii)? else {
+            return Ok(());
+        };
+        self.live.cii = Some(peer);
+        self.live.cii_open = Some(peer);
         Ok(())
     }
 
@@ -74,14 +77,17 @@ impl<O: Outside, W: Observes> Run<'_, O, W> {
         ensures goes { Leads O.told O.counts W.saw W.over config.now self.old self.new from_wc from_ts result }
         ensures stays { Stays O.counts self.old self.new result }
     {
-        if self.live.wc.is_some() {
+        let None = self.live.wc else {
             return Ok(());
-        }
+        };
         let url = &self.companion.state().wc_url;
         let Some(to) = place(self.alloc, Kind::Wc, CiiName::WcUrl, url)? else {
             return Ok(());
         };
-        self.live.wc = try_dial(self.outside, self.observer, Kind::Wc, &to)?;
+        let Some(peer) = try_dial(self.outside, self.observer, Kind::Wc, &to)? else {
+            return Ok(());
+        };
+        self.live.wc = Some(peer);
         Ok(())
     }
 
@@ -120,9 +126,9 @@ impl<O: Outside, W: Observes> Run<'_, O, W> {
         ensures goes { Leads O.told O.counts W.saw W.over config.now self.old self.new from_ts from_ask result }
         ensures stays { Stays O.counts self.old self.new result }
     {
-        if self.live.ts.is_some() {
+        let None = self.live.ts else {
             return Ok(());
-        }
+        };
         let url = &self.companion.state().ts_url;
         let Some(to) = place(self.alloc, Kind::Ts, CiiName::TsUrl, url)? else {
             return Ok(());

@@ -3,13 +3,14 @@ ghost use Rattle.std.specs.Prelude.{◌≡◌, ◌≤◌, ◌∷◌, ◌⊎◌, 
 ghost use Rattle.css_model.specs.History as entries;
 ghost use Rattle.css_model.specs.History.{History, Took};
 ghost use Rattle.css_model.specs.declared.Kind.TheVariants as kinds;
-ghost use Rattle.css_model.specs.Explains.{IsLawful};
 ghost use Rattle.css_model.specs.declared.Why.TheVariants as whys;
 ghost use Rattle.css_companion.specs.Meanings.{kind_of};
-ghost use Rattle.css_drive.specs.CompanionDue.{from_ask, from_take, from_cii_text, refusal_of};
-ghost use Rattle.css_drive.specs.CompanionStanding.{Shown, shown, shown_of, Stands, Knows, Leads, Goes, Stops, Stays};
-ghost use Rattle.css_drive.specs.CompanionStanding.{Calls, Adds, IsDue, IsEarly, IsHangingUp, IsRefusal, a_reading};
-ghost use Rattle.css_drive.specs.CompanionStanding.{open_of, from_text, after_text, hung};
+ghost use Rattle.css_drive.specs.CompanionDue.{due, from_ask, from_take, from_cii_text, refusal_of, hang_up};
+ghost use Rattle.css_drive.specs.CompanionStanding.{Shown, shown_of, Stands, Knows, Leads, Goes, Stops, Stays, Names};
+ghost use Rattle.css_drive.specs.CompanionStanding.{IsDue, IsEarly, Hangs, IsRefusal, a_reading};
+ghost use Rattle.css_drive.specs.CompanionStanding.{open_of, from_text, after_text};
+ghost use Rattle.css_drive.specs.Proper.{Due};
+ghost use Rattle.css_drive.specs.declared.config.DriveConfig.{DriveConfig as Config};
 
 use crate::calls;
 use crate::calls::{end_of, refused, send_datagram, take_text};
@@ -156,51 +157,51 @@ impl<O: Outside, W: Observes> Run<'_, O, W> {
             }
         }
     }
-}
 
-/// Hangs up a session, if it is open.
-fn hang_up_one<O: Outside, W: Observes>(
-    outside: &mut O,
-    observer: &W,
-    session: Option<u32>,
-) -> Result<(), Driven>
-    ensures { Calls (shown (O.told outside.old) (O.counts outside.old))
-        (shown (O.told outside.new) (O.counts outside.new)) (W.over observer.now)
-        (λ old new _. Adds old new (hung session)) result }
-{
-    let Some(peer) = session else {
-        return Ok(());
-    };
-    check(observer)?;
-    calls::hang_up(outside, peer)?;
-    Ok(())
-}
-
-/// Hangs up the sessions that are open, that of CSS-CII first, and ends the run so.
-// Each goal has its answer: the search would not end.
-#[tactic(none)]
-pub fn hang_up<O: Outside, W: Observes>(
-    config: &DriveConfig,
-    live: &Live,
-    outside: &mut O,
-    observer: &W,
-    end: Driven,
-) -> Driven
-    ensures stops { (before : Shown) → (started : W) → (history : History)
-        → Stands config.now before (shown (O.told outside.old) (O.counts outside.old)) (W.saw started observer.now)
-        live.now history
-        → IsLawful history → IsHangingUp config.now end history
-        → Stops config.now before (shown (O.told outside.new) (O.counts outside.new)) (W.saw started observer.now)
-        (W.over observer.now) result }
-    ensures dials { (O.counts outside.old).dial_faults ≤ (O.counts outside.new).dial_faults }
-    ensures kind { (result ≡ end) ⊎ IsEarly result }
-{
-    match hang_up_one(outside, observer, live.cii_open) {
-        Ok(()) => {}
-        Err(ended) => return ended,
+    /// Hangs up a session, if it is open.
+    fn hang_up_one(&mut self, session: Session) -> Result<(), Driven>
+        ensures goes { (config : Config) → (before : Shown) → (started : W) → (end : Driven)
+            → (from : Hangs config before (shown_of O.told O.counts self.old) (W.saw started self.old.observer.now)
+            self.old.live end)
+            → (rest : Due) → due config from.history ≡ hang_up (open_of session self.old.live) rest
+            → MatchResult result
+            (λ _. Hangs config before (shown_of O.told O.counts self.new) (W.saw started self.new.observer.now)
+            self.new.live end)
+            (Stops config before (shown_of O.told O.counts self.new) (W.saw started self.new.observer.now)
+            (W.over self.new.observer.now)) }
+        ensures shut { OnOk result (open_of session self.new.live ≡ None) }
+        ensures cii { OnOk result (self.old.live.cii_open ≡ None → self.new.live.cii_open ≡ None) }
+        ensures stays { Stays O.counts self.old self.new result }
+    {
+        let Some(peer) = self.live.peer_of(session) else {
+            return Ok(());
+        };
+        check(self.observer)?;
+        calls::hang_up(self.outside, peer)?;
+        self.live.close(peer);
+        Ok(())
     }
-    match hang_up_one(outside, observer, live.ts_open) {
-        Ok(()) => end,
-        Err(ended) => ended,
+
+    /// Hangs up the sessions that are open, that of CSS-CII first, and ends the run so.
+    // Each goal has its answer: the search would not end.
+    #[tactic(none)]
+    pub fn hang_up(&mut self, end: Driven) -> Driven
+        ensures stops { (config : Config) → (before : Shown) → (started : W)
+            → Hangs config before (shown_of O.told O.counts self.old) (W.saw started self.old.observer.now)
+            self.old.live end
+            → Stops config before (shown_of O.told O.counts self.new) (W.saw started self.new.observer.now)
+            (W.over self.new.observer.now) result }
+        ensures names { Names self.old self.new }
+        ensures dials { (O.counts self.old.outside.now).dial_faults ≤ (O.counts self.new.outside.now).dial_faults }
+        ensures kind { (result ≡ end) ⊎ IsEarly result }
+    {
+        match self.hang_up_one(Session::Cii) {
+            Ok(()) => {}
+            Err(ended) => return ended,
+        }
+        match self.hang_up_one(Session::Ts) {
+            Ok(()) => end,
+            Err(ended) => ended,
+        }
     }
 }

@@ -12,7 +12,6 @@ ghost use Rattle.css_drive.specs.CompanionStanding.{is_another};
 ghost use Rattle.css_drive.specs.Ends.{CountsNetFault, CountsDialFaults};
 
 use crate::companion_calls::ended_by;
-use crate::companion_hears::hang_up;
 use crate::companion_live::{Live, Run};
 use crate::config::DriveConfig;
 use crate::driven::Driven;
@@ -164,7 +163,7 @@ impl<O: Outside, W: Observes> Run<'_, O, W> {
             }
         }
         let end = ending(&self.live, config.reports);
-        let ended = hang_up(config, &self.live, self.outside, self.observer, end);
+        let ended = self.hang_up(end);
         ended_by(self.observer, ended)
     }
 }

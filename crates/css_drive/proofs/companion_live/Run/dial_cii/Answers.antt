@@ -1,16 +1,28 @@
-use Rattle.std.proofs.Common.{refl, sym, ◌∙◌, ◌∷◌}
+use Rattle.std.proofs.Common.{refl, ap, Some, None, ℕ, ◌∷◌}
+use Rattle.css_model.specs.declared.Kind.TheVariants as kind
+use Rattle.css_drive.specs.CompanionStanding.{Facts}
 use Rattle.css_drive.specs.Notes.{standpoint}
-use Rattle.css_drive.proofs.CompanionSteps.{none_if, failed}
+use Rattle.css_drive.proofs.CompanionSteps.{comes, stands_tried, failed}
 use Rattle.css_drive.proofs.CompanionCalls as calls
 use Rattle.css_drive.proofs.companion_live.Run.dial_cii.Goals as goal
 
 pub returns-clause-goes : goal.returns-clause-goes
 returns-clause-goes g c before started h s k d =
-    let call = c.in_ok-self.ensures in
-    calls.cii_dialled s d (none_if _ (sym c.is_some.ensures ∙ c.if-is_some.false)) k _ call.told
-    (call.saw (standpoint _ (_ ∷ h)) started _ s.saw_so) _ refl
+    let p : ℕ = c.in-Some.peer in
+    let call = rw c.in-Some.is at c.in_ok-peer.ensures in
+    comes (stands_tried s kind.Cii c.args.config.now.cii (calls.cii_due s d c.in-None.is) (Some p) call.told
+    (call.saw (standpoint _ (_ ∷ h)) started _ s.saw_so) _
+    (ap {A = Facts} (λ x. record x { cii = Some p; cii_open = Some p }) s.facts))
+    (calls.knows_tried kind.Cii c.args.config.now.cii (Some p) refl k) _ refl
 
-pub returns-in_err-self-clause-goes : goal.returns-in_err-self-clause-goes
-returns-in_err-self-clause-goes g c before started h s k d =
-    failed s _ _ k c.from_residual.ensures.1 c.in_err-self.ensures.told _
-    (c.in_err-self.ensures.saw (standpoint c.args.config.now h) started _ s.saw_so)
+pub returns-in_default-2-clause-goes : goal.returns-in_default-2-clause-goes
+returns-in_default-2-clause-goes g c before started h s k d =
+    let call = rw c.in_default-2.is at c.in_ok-peer.ensures in
+    comes (stands_tried s kind.Cii c.args.config.now.cii (calls.cii_due s d c.in-None.is) None call.told
+    (call.saw (standpoint _ (_ ∷ h)) started _ s.saw_so) _ s.facts)
+    (calls.knows_tried kind.Cii c.args.config.now.cii None tt k) _ refl
+
+pub returns-in_err-peer-clause-goes : goal.returns-in_err-peer-clause-goes
+returns-in_err-peer-clause-goes g c before started h s k d =
+    failed s _ _ k c.from_residual.ensures.1 c.in_err-peer.ensures.told _
+    (c.in_err-peer.ensures.saw (standpoint c.args.config.now h) started _ s.saw_so)

@@ -1,19 +1,17 @@
-use Rattle.std.proofs.Common.{refl, sym, ◌∙◌, ap, Some, None, ℕ, ◌∷◌}
+use Rattle.std.proofs.Common.{refl, ◌∙◌, ap, Some, None, ℕ, ◌∷◌}
 use Rattle.css_model.specs.declared.Kind.TheVariants as kind
 use Rattle.css_tsmsg.specs.Setups.{setup_text}
 use Rattle.css_drive.specs.CompanionStanding.{Facts}
 use Rattle.css_drive.specs.Notes.{standpoint}
-use Rattle.css_drive.proofs.CompanionSteps.{none_if, comes, stands_tried, failed, stops_by_memory}
-use Rattle.css_drive.proofs.CompanionSteps.{stops_here, ends_by, at_err}
+use Rattle.css_drive.proofs.CompanionSteps.{comes, stands_tried, failed, stops_by_memory, at_err}
 use Rattle.css_drive.proofs.CompanionCalls as calls
 use Rattle.css_drive.proofs.companion_live.Run.dial_ts.Goals as goal
 
 pub returns-clause-goes : goal.returns-clause-goes
 returns-clause-goes g c before started h s k d =
-    let none = none_if _ (sym c.is_some.ensures ∙ c.if-is_some.false) in
     let p : ℕ = c.in-Some-2.peer in
     let gives = rw c.in-Some.is at c.in_ok-to.ensures.gives in
-    let t = calls.ts_due s d none _ (c.state.ensures.meaning h k.stands) _ gives in
+    let t = calls.ts_due s d c.in-None.is _ (c.state.ensures.meaning h k.stands) _ gives in
     let call = rw c.in-Some-2.is at c.in_ok-peer.ensures in
     c.introduce.ensures.goes refl (c.in_ok-setup.ensures.text ∙ ap setup_text k.setup) before started _
     (stands_tried s kind.Ts c.in-Some.to t (Some p) call.told (call.saw (standpoint _ (_ ∷ h)) started _ s.saw_so) _
@@ -22,10 +20,9 @@ returns-clause-goes g c before started h s k d =
 
 pub returns-in_err-setup-clause-goes : goal.returns-in_err-setup-clause-goes
 returns-in_err-setup-clause-goes g c before started h s k d =
-    let none = none_if _ (sym c.is_some.ensures ∙ c.if-is_some.false) in
     let p : ℕ = c.in-Some-2.peer in
     let gives = rw c.in-Some.is at c.in_ok-to.ensures.gives in
-    let t = calls.ts_due s d none _ (c.state.ensures.meaning h k.stands) _ gives in
+    let t = calls.ts_due s d c.in-None.is _ (c.state.ensures.meaning h k.stands) _ gives in
     let call = rw c.in-Some-2.is at c.in_ok-peer.ensures in
     at_err _ _ _ _ c.from_residual-in_err-setup.ensures.1
     (stops_by_memory (stands_tried s kind.Ts c.in-Some.to t (Some p) call.told
@@ -35,12 +32,11 @@ returns-in_err-setup-clause-goes g c before started h s k d =
     (calls.lawful_plain _ _ (calls.lawful_plain _ _ k.stands.client.lawful refl refl) refl refl) _ _
     c.in_err-setup.ensures.err)
 
-pub returns-in_default-2-clause-goes : goal.returns-in_default-2-clause-goes
-returns-in_default-2-clause-goes g c before started h s k d =
-    let none = none_if _ (sym c.is_some.ensures ∙ c.if-is_some.false) in
+pub returns-in_default-3-clause-goes : goal.returns-in_default-3-clause-goes
+returns-in_default-3-clause-goes g c before started h s k d =
     let gives = rw c.in-Some.is at c.in_ok-to.ensures.gives in
-    let t = calls.ts_due s d none _ (c.state.ensures.meaning h k.stands) _ gives in
-    let call = rw c.in_default-2.is at c.in_ok-peer.ensures in
+    let t = calls.ts_due s d c.in-None.is _ (c.state.ensures.meaning h k.stands) _ gives in
+    let call = rw c.in_default-3.is at c.in_ok-peer.ensures in
     comes (stands_tried s kind.Ts c.in-Some.to t None call.told (call.saw (standpoint _ (_ ∷ h)) started _ s.saw_so) _
     s.facts) (calls.knows_tried kind.Ts c.in-Some.to None tt k) _ refl
 
@@ -51,8 +47,6 @@ returns-in_err-peer-clause-goes g c before started h s k d =
 
 pub returns-in_err-to-clause-goes : goal.returns-in_err-to-clause-goes
 returns-in_err-to-clause-goes g c before started h s k d =
-    let none = none_if _ (sym c.is_some.ensures ∙ c.if-is_some.false) in
-    let gives = c.in_err-to.ensures.gives in
     at_err _ _ _ c.from_residual.result c.from_residual.ensures.1
-    (stops_here s k.stands.client.lawful _ _ (calls.bad_own _ _ _ gives) (ends_by _ _ _
-    (calls.ts_due s d none _ (c.state.ensures.meaning h k.stands) _ refl) (calls.bad_place _ _ _ _ _ gives)))
+    (calls.bad_stops s k.stands.client.lawful _ _ _ _ _ c.in_err-to.ensures.gives
+    (calls.ts_due s d c.in-None.is _ (c.state.ensures.meaning h k.stands) _ refl))

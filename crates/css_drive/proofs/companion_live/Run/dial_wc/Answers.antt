@@ -1,26 +1,36 @@
-use Rattle.std.proofs.Common.{refl, sym, ◌∙◌, ◌∷◌}
+use Rattle.std.proofs.Common.{refl, ap, Some, None, ℕ, ◌∷◌}
+use Rattle.css_model.specs.declared.Kind.TheVariants as kind
+use Rattle.css_drive.specs.CompanionStanding.{Facts}
 use Rattle.css_drive.specs.Notes.{standpoint}
-use Rattle.css_drive.proofs.CompanionSteps.{none_if, failed, stops_here, ends_by, at_err}
+use Rattle.css_drive.proofs.CompanionSteps.{comes, stands_tried, failed, at_err}
 use Rattle.css_drive.proofs.CompanionCalls as calls
 use Rattle.css_drive.proofs.companion_live.Run.dial_wc.Goals as goal
 
 pub returns-clause-goes : goal.returns-clause-goes
 returns-clause-goes g c before started h s k d =
-    let none = none_if _ (sym c.is_some.ensures ∙ c.if-is_some.false) in
+    let p : ℕ = c.in-Some-2.peer in
     let gives = rw c.in-Some.is at c.in_ok-to.ensures.gives in
-    let call = c.in_ok-self.ensures in
-    calls.wc_dialled s (calls.wc_due s d none _ (c.state.ensures.meaning h k.stands) _ gives) none k _ call.told
-    (call.saw (standpoint _ (_ ∷ h)) started _ s.saw_so) _ refl
+    let t = calls.wc_due s d c.in-None.is _ (c.state.ensures.meaning h k.stands) _ gives in
+    let call = rw c.in-Some-2.is at c.in_ok-peer.ensures in
+    comes (stands_tried s kind.Wc c.in-Some.to t (Some p) call.told
+    (call.saw (standpoint _ (_ ∷ h)) started _ s.saw_so) _ (ap {A = Facts} (λ x. record x { wc = Some p }) s.facts))
+    (calls.knows_tried kind.Wc c.in-Some.to (Some p) refl k) _ refl
 
-pub returns-in_err-self-clause-goes : goal.returns-in_err-self-clause-goes
-returns-in_err-self-clause-goes g c before started h s k d =
-    failed s _ _ k c.from_residual-in_err-self.ensures.1 c.in_err-self.ensures.told _
-    (c.in_err-self.ensures.saw (standpoint c.args.config.now h) started _ s.saw_so)
+pub returns-in_default-3-clause-goes : goal.returns-in_default-3-clause-goes
+returns-in_default-3-clause-goes g c before started h s k d =
+    let gives = rw c.in-Some.is at c.in_ok-to.ensures.gives in
+    let t = calls.wc_due s d c.in-None.is _ (c.state.ensures.meaning h k.stands) _ gives in
+    let call = rw c.in_default-3.is at c.in_ok-peer.ensures in
+    comes (stands_tried s kind.Wc c.in-Some.to t None call.told (call.saw (standpoint _ (_ ∷ h)) started _ s.saw_so) _
+    s.facts) (calls.knows_tried kind.Wc c.in-Some.to None tt k) _ refl
+
+pub returns-in_err-peer-clause-goes : goal.returns-in_err-peer-clause-goes
+returns-in_err-peer-clause-goes g c before started h s k d =
+    failed s _ _ k c.from_residual-in_err-peer.ensures.1 c.in_err-peer.ensures.told _
+    (c.in_err-peer.ensures.saw (standpoint c.args.config.now h) started _ s.saw_so)
 
 pub returns-in_err-to-clause-goes : goal.returns-in_err-to-clause-goes
 returns-in_err-to-clause-goes g c before started h s k d =
-    let none = none_if _ (sym c.is_some.ensures ∙ c.if-is_some.false) in
-    let gives = c.in_err-to.ensures.gives in
     at_err _ _ _ c.from_residual.result c.from_residual.ensures.1
-    (stops_here s k.stands.client.lawful _ _ (calls.bad_own _ _ _ gives) (ends_by _ _ _
-    (calls.wc_due s d none _ (c.state.ensures.meaning h k.stands) _ refl) (calls.bad_place _ _ _ _ _ gives)))
+    (calls.bad_stops s k.stands.client.lawful _ _ _ _ _ c.in_err-to.ensures.gives
+    (calls.wc_due s d c.in-None.is _ (c.state.ensures.meaning h k.stands) _ refl))

@@ -66,19 +66,23 @@ returns g c =
     let over = sym c.goes_again.ensures ∙ c.turns-test.false in
     let P : Driven → Type 0 = λ x. IsHangingUp cfg x w.history in
     let hanging = subst P (sym c.ending-end.ensures) (ends.is_over w.stands w.next over) in
-    let s = c.hang_up-ended.ensures.stops _ _ w.history w.stands w.known.stands.client.lawful hanging in
+    let s = c.hang_up-ended.ensures.stops _ _ _ (record {
+      history = w.history;
+      stands = w.stands;
+      lawful = w.known.stands.client.lawful;
+      hanging = hanging;
+    }) in
     let le : (g.O.Outside.counts c.args.self.now.outside.now).dial_faults
-    ≤ (g.O.Outside.counts c.hang_up-ended.new.outside).dial_faults =
+    ≤ (g.O.Outside.counts c.hang_up-ended.new.self.outside.now).dial_faults =
     omega (arith, i.dials, c.hang_up-ended.ensures.dials) in
     let hung = runs.hung_dials _ _ cfg.reports (facts_in c.turns.self.live) _ _ le (λ few none.
     runs.risen_to _ _ _ c.hang_up-ended.ensures.dials (i.tried few (ends.has_begun w.stands over few) none))
     c.ending-end.ensures c.hang_up-ended.ensures.kind in
     record {
-      names =
-          record { outside = i.names.outside; observer = i.names.observer; companion = i.names.companion };
+      names = runs.names_on i.names c.hang_up-ended.ensures.names;
       made = runs.made_of cfg _ _ _ _ _ _ c.ended_by-2.ensures s;
       net_faults = runs.counted_of cfg _ _ _ _ _ _ c.ended_by-2.ensures s;
       dial_faults =
           subst (CountsDialFaults _ _) (sym c.ended_by-2.ensures)
-          (runs.final_dials (g.W.Observes.over c.turns.self.observer.now) _ _ _ hung le);
+          (runs.final_dials (g.W.Observes.over c.hang_up-ended.new.self.observer.now) _ _ _ hung le);
     }
