@@ -52,41 +52,34 @@ use Rattle.css_drive.specs.SameEvents.{text_of, end_of, with_happening, happenin
 
 -- ---- followers
 -- one more report
-hears_more : (report : Report) (reports : List Report) (before between now : Seen) (said : List ℕ) (ends : Bool)
-    → HasHeard reports before between → now ≡ told report said ends between → HasHeard (report ∷ reports) before now
-hears_more report reports before between now said ends h hears = by between.done refl
+hears_more : (report : Report) (reports : List Report) (before between : Seen) (said : List ℕ) (ends : Bool)
+    → HasHeard reports before between → HasHeard (report ∷ reports) before (told report said ends between)
+hears_more report reports before between said ends h = by between.done refl
   where
-    by : (b : Bool) → between.done ≡ b → HasHeard (report ∷ reports) before now
-    by true e =
-        let same : now ≡ between = hears ∙ ap (λ d. told_unless d report said ends between) e in
-        record {
-          missed = suc h.missed;
-          heard = ap (λ x. x.heard) same ∙ h.heard;
-          texts = h.texts;
-          spoken = ap (λ x. x.spoken) same ∙ h.spoken;
-          one_each = h.one_each;
-          all = λ f. absurd (let t : now.done ≡ true = ap (λ x. x.done) same ∙ e in let c : true ≡ false = sym t
-              ∙ f in cc);
-        }
-    by false e =
-        let new : now ≡ after report said ends between = hears ∙ ap (λ d. told_unless d report said ends between) e in
-        let none : h.missed ≡ 0 = h.all e in
-        record {
-          missed = 0;
-          heard = ap (λ x. x.heard) new ∙ ap (λ x. report ∷ x) (h.heard
-              ∙ ap (λ n. drop n reports ++ before.heard) none);
-          texts = said ∷ h.texts;
-          spoken = ap (λ x. x.spoken) new ∙ ap (λ x. said ∷ x) h.spoken;
-          one_each = ap suc (h.one_each ∙ ap (λ n. length (drop n reports)) none);
-          all = λ f. refl;
-        }
+    by : (b : Bool) → between.done ≡ b
+        → HasHeard (report ∷ reports) before (told_unless b report said ends between)
+    by true e = record {
+      missed = suc h.missed;
+      heard = h.heard;
+      texts = h.texts;
+      spoken = h.spoken;
+      one_each = h.one_each;
+      all = λ f. absurd (let c : true ≡ false = sym e ∙ f in cc);
+    }
+    by false e = record {
+      missed = 0;
+      heard = ap (λ x. report ∷ x) (h.heard ∙ ap (λ n. drop n reports ++ before.heard) (h.all e));
+      texts = said ∷ h.texts;
+      spoken = ap (λ x. said ∷ x) h.spoken;
+      one_each = ap suc (h.one_each ∙ ap (λ n. length (drop n reports)) (h.all e));
+      all = λ f. refl;
+    }
 
 each_more : (report : Report) (reports : List Report) (before between : List Listener)
     → EachHasHeard reports before between → EachHasHeard (report ∷ reports) before (map (hearing report) between)
 each_more report reports [] [] e = tt
 each_more report reports (b ∷ bs) (m ∷ ms) e = (
-  hears_more report reports b.seen m.seen (hearing report m).seen (words_of report m) (ends_by m.plan m.seen report) e.0
-      refl,
+  hears_more report reports b.seen m.seen (words_of report m) (ends_by m.plan m.seen report) e.0,
   each_more report reports bs ms e.1,
 )
 each_more report reports [] (m ∷ ms) e = absurd e
@@ -111,9 +104,7 @@ each_hears [] before = each_none before
 each_hears (r ∷ rs) before = each_more r rs before (after_all rs before) (each_hears rs before)
 
 pub followers_hear : FollowersHear
-followers_hear reports said before now f =
-    let P : List Listener → Type 0 = λ x. EachHasHeard reports before x in
-    subst P (sym f.heard) (each_hears reports before)
+followers_hear reports said before now f = subst (EachHasHeard reports before) (sym f.heard) (each_hears reports before)
 
 -- ---- reports
 -- where another turn is due reports are still to be made, and where the run ends with all made none is
@@ -162,8 +153,7 @@ module _ (short : Bool) where
 
   refused : (f : CompanionFault) → Fair short (Ends (end_by f))
   refused (fault.BadCii number reason) = record { so = tt }
-  refused (fault.Moved property old new) = record { so = tt }
-  refused fault.Memory = record { so = tt }
+  refused _ = record { so = tt }
 
 -- the end of a run is `Done` only where no reports are to be made
 hangs : (short any : Bool) (n : ℕ) (a b : Option ℕ)
@@ -184,19 +174,11 @@ again false left rest v = v
 ruleset fair = (either, after_text, after_dial, after_first, after_sending, sends, takes, reads, hangs, again)
 
 point_fair : (config : DriveConfig) (h : History) (p : Point) → Fair (is_short config h) (due_at config p h)
-point_fair config h dues.Start = search fair depth 20
-point_fair config h dues.Begun = search fair depth 20
-point_fair config h (dues.Called kind.Cii) = search fair depth 20
-point_fair config h (dues.Called kind.Wc) = search fair depth 20
-point_fair config h (dues.Called kind.Ts) = search fair depth 20
 point_fair config h (dues.Connected peer) = record { so = tt }
-point_fair config h (dues.SetUp peer) = search fair depth 20
-point_fair config h (dues.Asking reading) = search fair depth 20
-point_fair config h dues.Requested = search fair depth 20
 point_fair config h dues.Arrived = record { so = tt }
-point_fair config h dues.Received = search fair depth 20
-point_fair config h (dues.HeardFrom peer) = search fair depth 20
-point_fair config h dues.Over = search fair depth 20
+point_fair config h (dues.Called kind.Cii) = search fair depth 20
+point_fair config h (dues.Called _) = search fair depth 20
+point_fair config h _ = search fair depth 20
 
 settled : (config : DriveConfig) (h : History) → Verdict (is_short config h) (due config h)
 settled config h = (by (refusal h)).so
@@ -241,8 +223,7 @@ module _ (config : DriveConfig) (older : History) (w : Within config older) wher
   call_within TakeDatagram e call (room, None, is) = put call _ is w
   call_within TakeDatagram e call (room, Some (peer, count), is) = put call _ is w
   call_within (TakeText peer) e call (heard.Quiet, is) = put call _ is w
-  call_within (TakeText peer) e call (heard.Text text, is) = put call _ is w
-  call_within (TakeText peer) e call (heard.Closed, is) = put call _ is w
+  call_within (TakeText peer) e call (_, is) = put call _ is w
   call_within (SendText peer bytes) e call (outcome.Sent, is) = put call _ is w
   call_within (SendText peer bytes) e call (outcome.Gone, is) = put call _ is w
   call_within (Ends end) e call m = absurd m

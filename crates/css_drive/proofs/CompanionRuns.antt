@@ -18,7 +18,7 @@ use Rattle.css_drive.specs.CompanionStanding.{Shown, Facts, Knows, Stands, Stops
 use Rattle.css_drive.specs.CompanionStanding.{IsEndOf, final_end, ending_of, facts_of, facts_in, HasTried, Names}
 use Rattle.css_drive.specs.Ends.{MayEnd, CountsNetFault, CountsDialFaults}
 use Rattle.css_drive.specs.Notes.{Note}
-use Rattle.css_drive.specs.Proper.{Empty}
+use Rattle.css_drive.specs.Proper.{Due, Empty}
 use Rattle.css_drive.specs.declared.companion_live.Live.{Live}
 use Rattle.css_drive.specs.declared.companion_live.Run.{Run}
 use Rattle.css_drive.specs.declared.config.DriveConfig.{DriveConfig}
@@ -60,25 +60,15 @@ hung_dials before now reports facts end ended le tried so (inl e) =
     by : (short : Bool) → nat_lt facts.reported reports ≡ short → (cii : Option ℕ) → facts.cii ≡ cii
         → (wc ts : Option ℕ) → CountsDialFaults before now (cond short (cond (is_some cii || (is_some wc || is_some ts))
         (driven.Spent facts.made) (driven.Unreachable facts.made)) driven.Done)
-    by false s cii c wc ts = le
-    by true s (Some x) c wc ts = le
-    by true s None c (Some x) ts = le
-    by true s None c None (Some x) = le
     by true s None c None None = tried (ltb-true _ _ s) c
+    by _ s _ c _ _ = le
 hung_dials before now reports facts end ended le tried so (inr f) = early_dials before now ended f le
 
--- a count that rose since a later one rose since an earlier one
-pub risen_from : (was before now : ℕ) → was ≤ before → HasRisen before now → HasRisen was now
-risen_from was before now le r = record {
-  kept = omega (arith, le, r.kept);
-  risen = λ lt. grind (arith, common_steps, le, r.kept, r.risen, lt);
-}
-
--- and one that rose until an earlier one has risen since
-pub risen_to : (was before now : ℕ) → before ≤ now → HasRisen was before → HasRisen was now
-risen_to was before now le r = record {
-  kept = omega (arith, le, r.kept);
-  risen = λ lt. grind (arith, common_steps, le, r.kept, r.risen, lt);
+-- a count that rose in a time rose in a longer one
+pub risen_within : (was before mid now : ℕ) → was ≤ before → mid ≤ now → HasRisen before mid → HasRisen was now
+risen_within was before mid now early late r = record {
+  kept = omega (arith, early, r.kept, late);
+  risen = λ lt. grind (arith, common_steps, early, r.kept, late, r.risen, lt);
 }
 
 -- ---- what calls answer
@@ -88,7 +78,7 @@ on_ok (Err e) p = tt
 
 pub tried_from : {T E : Type 0} (r : Result T E) (config : DriveConfig) (live : Live) (was before now : ℕ)
     → was ≤ before → OnOk r (live.cii ≡ None → HasRisen before now) → OnOk r (HasTried config was now live)
-tried_from (Ok v) config live was before now le f = λ few begun none. risen_from was before now le (f none)
+tried_from (Ok v) config live was before now le f = λ few begun none. risen_within was before now now le (omega arith) (f none)
 tried_from (Err e) config live was before now le f = tt
 
 -- a run's parts stay the same places
@@ -100,50 +90,42 @@ names_on n m = record {
 }
 
 -- ---- the end
+-- where a run may end so, and what is counted then
+abbrev EndsSo : Due → ℕ → ℕ → Option OutFault → Driven → Type 0
+EndsSo due before now over ended = MayEnd due ended × IsEndOf over ended × CountsNetFault before now ended
+
 -- the run stopped, and its observer has the last word
-pub made_of : (config : DriveConfig) (before now : Shown) (saw : List Note → Type 0) (over : Option OutFault)
-    (ended result : Driven) → result ≡ final_end over ended → Stops config before now saw over ended
-    → Made config before.told now.told saw over result
-made_of config before now saw over ended result e s =
-    let P : Driven → Type 0 = λ x. Made config before.told now.told saw over x in
-    subst P (sym e) (record {
-      history = s.history;
-      told = s.told;
-      proper = s.proper;
-      ends = ends over s.ends;
-      promised = keeps_promises config s.history s.lawful;
-      saw_so = s.saw_so;
-      so = so over ended s.so;
-    })
-  where
-    ends : (o : Option OutFault) → MayEnd (due config s.history) ended
-        → MayEnd (due config s.history) (final_end o ended)
-    ends None m = m
-    ends (Some (fault.Failed failure)) m = tt
-    ends (Some fault.Memory) m = tt
+module _ (config : DriveConfig) (before now : Shown) (saw : List Note → Type 0) (over : Option OutFault)
+    (ended result : Driven) (e : result ≡ final_end over ended) (s : Stops config before now saw over ended) where
+  final_so : EndsSo (due config s.history) before.counts.faults now.counts.faults over result
+  final_so = subst (EndsSo (due config s.history) before.counts.faults now.counts.faults over) (sym e)
+      (by over ended s.ends s.so s.counted)
+    where
+      same : (o : OutFault) (d : Driven) → IsSo (Some o) d
+          → CountsNetFault before.counts.faults now.counts.faults d → now.counts.faults ≡ before.counts.faults
+      same o (driven.NetFault failure) i c = let none : Some o ≡ None = i in cc
+      same o _ i c = c
 
-    so : (o : Option OutFault) (d : Driven) → IsSo o d → IsEndOf o (final_end o d)
-    so None d i = λ is. let Q : Driven → Type 0 = λ x. IsSo None x in (subst Q is i) refl
-    so (Some (fault.Failed failure)) d i = refl
-    so (Some fault.Memory) d i = refl
+      by : (o : Option OutFault) (d : Driven) → MayEnd (due config s.history) d → IsSo o d
+          → CountsNetFault before.counts.faults now.counts.faults d
+          → EndsSo (due config s.history) before.counts.faults now.counts.faults o (final_end o d)
+      by None d m i c = (m, λ is. let Q : Driven → Type 0 = λ x. IsSo None x in (subst Q is i) refl, c)
+      by (Some (fault.Failed failure)) d m i c = (tt, refl, same (fault.Failed failure) d i c)
+      by (Some fault.Memory) d m i c = (tt, refl, same fault.Memory d i c)
 
-pub counted_of : (config : DriveConfig) (before now : Shown) (saw : List Note → Type 0) (over : Option OutFault)
-    (ended result : Driven) → result ≡ final_end over ended → Stops config before now saw over ended
-    → CountsNetFault before.counts.faults now.counts.faults result
-counted_of config before now saw over ended result e s =
-    subst (CountsNetFault before.counts.faults now.counts.faults) (sym e) (by over ended s.so s.counted)
-  where
-    same : (o : OutFault) (d : Driven) → IsSo (Some o) d
-        → CountsNetFault before.counts.faults now.counts.faults d → now.counts.faults ≡ before.counts.faults
-    same o (driven.NetFault failure) i c = let none : Some o ≡ None = i in cc
-    same o _ i c = c
+  pub made_of : Made config before.told now.told saw over result
+  made_of = record {
+    history = s.history;
+    told = s.told;
+    proper = s.proper;
+    ends = final_so.0;
+    promised = keeps_promises config s.history s.lawful;
+    saw_so = s.saw_so;
+    so = final_so.1;
+  }
 
-    by : (o : Option OutFault) (d : Driven) → IsSo o d
-        → CountsNetFault before.counts.faults now.counts.faults d
-        → CountsNetFault before.counts.faults now.counts.faults (final_end o d)
-    by None d i c = c
-    by (Some (fault.Failed failure)) d i c = same (fault.Failed failure) d i c
-    by (Some fault.Memory) d i c = same fault.Memory d i c
+  pub counted_of : CountsNetFault before.counts.faults now.counts.faults result
+  counted_of = final_so.2
 
 -- ---- the beginning
 pub no_entries : (told : Option History) → told ≡ with_entries [] told

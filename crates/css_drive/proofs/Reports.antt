@@ -1,118 +1,88 @@
 -- What a run's observer that writes its reports has written.
-use Rattle.std.proofs.Common.{◌≡◌, ℕ, ◌+◌, suc, ap, sym, ◌∙◌, subst, refl, inl, Bool, true, false, List, [], ◌∷◌, ◌++◌}
-use Rattle.std.proofs.Common.{append_assoc, append-nil, length, map, flat_map, Option, Some, None}
-use Rattle.std.proofs.Common.{cond}
+use Rattle.std.proofs.Common.{◌≡◌, ℕ, ◌+◌, ap, sym, ◌∙◌, subst, refl, inl, Bool, true, false, List, [], ◌∷◌, ◌++◌}
+use Rattle.std.proofs.Common.{append_assoc, append-nil, length, map, flat_map, Option, Some, None, cond}
 use Rattle.std.proofs.KnownBytes.{Appends-nil, Appends-trans}
 use Rattle.std.specs.Io.KnownBytes.{Appends}
 use Rattle.css_model.specs.History.{History}
-use Rattle.css_outside.specs.Bytes.{AppendsPrefix}
-use Rattle.css_outside.specs.Faults.{CountsOutFault}
+use Rattle.css_outside.specs.declared.calls.Clocked.{Clocked}
 use Rattle.css_outside.specs.declared.fault.OutFault.{OutFault}
 use Rattle.css_outside.specs.declared.fault.OutFault.TheVariants as fault
 use Rattle.css_companion.specs.Printed.{line_of}
 use Rattle.css_companion.specs.declared.report.Report.{Report}
-use Rattle.css_drive.specs.CompanionReports.{due_reports, report_at, is_due, written, all_but_newest, IsPart}
-use Rattle.css_drive.specs.CompanionReports.{HasWritten}
-use Rattle.css_drive.specs.CompanionRun.{Followed, FollowedInPart, HasFollowed, Ran, after_all}
+use Rattle.css_drive.specs.CompanionReports.{due_reports, report_at, is_due, written}
 use Rattle.css_drive.specs.CompanionReports as reports
+use Rattle.css_drive.specs.CompanionRun.{Ran, after_all, said_of}
 use Rattle.css_drive.specs.CompanionStanding.{Made, IsEndOf}
 use Rattle.css_drive.specs.CompanionTurns.{turn_at, first_turn}
 use Rattle.css_drive.specs.Ends.{CountsWriteFault}
-use Rattle.css_follow.specs.Listening.{Listener, hearing, words_of}
 use Rattle.css_drive.specs.Notes.{Note, Event, Reported, noted, with_event, with_report, event_of, slept_notes}
-use Rattle.css_drive.specs.Notes.{turn_notes, Standpoint, standpoint}
-use Rattle.css_outside.specs.declared.calls.Clocked.{Clocked}
-use Rattle.css_drive.specs.Telling.{Audience, IsWritten, IsPartlyWritten, WritesReport, reports_in, AreNumbered}
-use Rattle.css_drive.specs.Telling.{HasTold, HasToldPart, Tells}
+use Rattle.css_drive.specs.Notes.{Happened, Turn, turn_notes, slept_from, Standpoint, standpoint}
+use Rattle.css_drive.specs.Telling.{Audience, Writes, CountsOver, reports_in, AreNumbered, HasTold, HasToldTo, Tells}
+use Rattle.css_drive.specs.Telling.{TellsAll}
 use Rattle.css_drive.specs.declared.config.DriveConfig.{DriveConfig}
 use Rattle.css_drive.specs.declared.driven.Driven.{Driven}
 use Rattle.css_drive.specs.declared.driven.Driven.TheVariants as driven
+use Rattle.css_follow.specs.Listening.{hearing, words_of}
 
 -- ---- all reports
--- the newest report is written
-told_newest : (started old new : Audience) (number : ℕ) (report : Report) (reports : List Report)
-    (said : List (List ℕ)) → HasTold started old reports said → number ≡ length reports + 1
-    → (w : IsWritten old new number report) → HasTold started new (report ∷ reports) (w.words ∷ said)
-told_newest started old new number report reports said t e w =
-    let P : ℕ → Type 0 = λ n. Appends old.holds new.holds (line_of n report None ++ w.words) in
+-- the newest report is written, or a part of it
+told_newest : (over : Option OutFault) (started old new : Audience) (report : Report) (reports : List Report)
+    → HasTold started old reports → Writes over old new (length reports + 1) report
+    → TellsAll over started new (report ∷ reports)
+told_newest None started old new report reports t w =
+    let words = w.heard.said ∙ ap (flat_map (words_of report)) t.heard in
+    let P : List ℕ → Type 0 = λ x. Appends old.holds new.holds (line_of (length reports + 1) report None ++ x) in
     record {
-      grew = Appends-trans started.holds old.holds new.holds (written reports said) (line_of (length reports + 1)
-          report None ++ w.words) t.grew (subst P e w.grew);
-      followed = record {
-        heard = w.heard.heard ∙ ap (map (hearing report)) t.followed.heard;
-        words = ap (λ x. x ∷ said) (w.heard.said ∙ ap (flat_map (words_of report)) t.followed.heard)
-            ∙ ap (λ x. flat_map (words_of report) (after_all reports started.heard) ∷ x) t.followed.words;
-      };
-      each = ap suc t.each;
+      grew = Appends-trans _ _ _ (written reports (said_of reports started.heard)) _ t.grew (subst P words w.grew);
+      heard = w.heard.heard ∙ ap (map (hearing report)) t.heard;
     }
-
--- a part of it is
-told_part : (started old new : Audience) (number : ℕ) (report : Report) (reports : List Report)
-    (said : List (List ℕ)) → HasTold started old reports said → number ≡ length reports + 1
-    → IsPartlyWritten old new number report → HasToldPart started new (report ∷ reports)
-told_part started old new number report reports said t e w =
-    let A : ℕ → Type 0 = λ n. AppendsPrefix old.holds new.holds (line_of n report None ++ w.words) in
-    let part : AppendsPrefix old.holds new.holds (line_of (length reports + 1) report None ++ w.words) = subst A e
-    w.grew in
+told_newest (Some cause) started old new report reports t w =
+    let earlier = written reports (said_of reports started.heard) in
+    let part = w.grew in
     record {
-      said = w.words ∷ said;
-      bytes = written reports said ++ part.front;
-      grew = Appends-trans started.holds old.holds new.holds (written reports said) part.front t.grew part.grew;
+      said = w.words ∷ said_of reports started.heard;
+      bytes = earlier ++ part.front;
+      grew = Appends-trans _ _ _ earlier part.front t.grew part.grew;
       wrote = record {
         within = (
           part.of.0,
-          ap (λ x. written reports said ++ x) part.of.1
-              ∙ sym (append_assoc (written reports said) part.front part.of.0),
+          ap (λ x. earlier ++ x) part.of.1 ∙ sym (append_assoc earlier part.front part.of.0),
         );
         earlier = (part.front, refl);
       };
-      followed = record { between = old.heard; earlier = t.followed; newest = w.heard };
+      listened = record {
+        between = old.heard;
+        earlier = record { heard = t.heard; words = refl };
+        newest = w.heard;
+      };
     }
 
-risen_after : (cause : OutFault) (a b c : ℕ) → b ≡ a → CountsOutFault b c cause → CountsOutFault a c cause
-risen_after cause a b c e f = let P : ℕ → Type 0 = λ x. CountsOutFault x c cause in subst P e f
-
-pub tells_newest : (over : Option OutFault) (started old new : Audience) (was before now : ℕ) (number : ℕ)
-    (report : Report) (from : Standpoint) (notes : List Note) → Tells None started old was before notes
-    → WritesReport over old new before now number report
-    → Tells over started new was now (Reported from number report ∷ notes)
-tells_newest None started old new was before now number report from notes t w = (
-  λ numbered. let told = t.0 numbered.1 in (
-    w.0.words ∷ told.0,
-    told_newest started old new number report (reports_in notes) told.0 told.1 numbered.0 w.0,
-  ),
-  w.1 ∙ t.1,
-)
-tells_newest (Some cause) started old new was before now number report from notes t w = (
-  λ numbered. let told = t.0 numbered.1 in
-      told_part started old new number report (reports_in notes) told.0 told.1 numbered.0 w.0,
-  risen_after cause was before now t.1 w.1,
-)
-
--- an observer that was not over was told of a turn
-pub tells_turn : (over : Option OutFault) (started now : Audience) (was is : ℕ) (from : Standpoint) (clocked : Clocked)
-    (notes : List Note) → over ≡ None → Tells over started now was is notes
-    → Tells None started now was is (turn_notes from clocked ++ notes)
-tells_turn over started now was is from clocked notes e t =
-    let P : Option OutFault → Type 0 = λ x. Tells x started now was is notes in by clocked.slept (subst P e t)
+-- an observer that was not over was told of a turn, and of its report
+pub tells_reported : (was_over over : Option OutFault) (started old new : Audience) (was before now number : ℕ)
+    (report : Report) (from : Standpoint) (clocked : Clocked) (notes : List Note) → was_over ≡ None
+    → Tells was_over started old was before notes → Writes over old new number report → CountsOver over before now
+    → Tells over started new was now (Reported from number report ∷ (turn_notes from clocked ++ notes))
+tells_reported was_over over started old new was before now number report from clocked notes on told w counted =
+    let P : Option OutFault → Type 0 = λ x. Tells x started old was before notes in
+    let t = subst P on told in
+    by clocked.slept (
+      λ numbered. told_newest over started old new report (reports_in notes) (t.0 numbered.1)
+          (subst (λ n. Writes over old new n report) numbered.0 w),
+      subst (λ x. CountsOver over x now) t.1 counted,
+    )
   where
-    by : (slept : Bool) → Tells None started now was is notes
-        → Tells None started now was is (slept_notes from slept ++ notes)
+    by : (slept : Bool) → Tells over started new was now (Reported from number report ∷ notes)
+        → Tells over started new was now
+        (Reported from number report ∷ Happened (slept_from from slept) (Turn clocked.reading) ∷ (slept_notes from slept
+        ++ notes))
     by true t = t
     by false t = t
 
 -- nothing is told yet
 pub tells_nothing : (over : Option OutFault) (now : Audience) (is : ℕ) → over ≡ None → Tells over now now is is []
-tells_nothing over now is e =
+tells_nothing over now is on =
     let P : Option OutFault → Type 0 = λ x. Tells x now now is is [] in
-    let nothing : Tells None now now is is [] = (
-      λ numbered. (
-        [],
-        record { grew = Appends-nil now.holds; followed = record { heard = refl; words = refl }; each = refl },
-      ),
-      refl,
-    ) in
-    subst P (sym e) nothing
+    subst P (sym on) (λ numbered. record { grew = Appends-nil now.holds; heard = refl }, refl)
 
 -- ---- the reports of a run
 -- the reports among these notes are these, and have their numbers
@@ -142,69 +112,44 @@ noted_so config (entry ∷ older) =
         at false = a
 
 -- ---- what the run comes to
-part_whole : (reports : List Report) (said : List (List ℕ)) → length said ≡ length reports
-    → IsPart reports said (written reports said)
-part_whole [] said e = record { within = ([], refl); earlier = ([], refl) }
-part_whole (r ∷ rs) [] e = absurd (cc)
-part_whole (r ∷ rs) (w ∷ ws) e = record {
-  within = ([], sym (append-nil (written rs ws ++ (line_of (length rs + 1) r None ++ w))));
-  earlier = (line_of (length rs + 1) r None ++ w, refl);
+-- what is whole is a part too
+in_part : (started now : Audience) (reports : List Report) → HasTold started now reports
+    → HasToldTo driven.Memory started now reports
+in_part started now [] t = record {
+  said = [];
+  bytes = [];
+  grew = t.grew;
+  wrote = record { within = ([], refl); earlier = ([], refl) };
+  listened = record { between = started.heard; earlier = record { heard = refl; words = refl }; newest = t.heard };
+}
+in_part started now (r ∷ rs) t = record {
+  said = said_of (r ∷ rs) started.heard;
+  bytes = written (r ∷ rs) (said_of (r ∷ rs) started.heard);
+  grew = t.grew;
+  wrote = record { within = ([], sym (append-nil _)); earlier = (_, refl) };
+  listened = record {
+    between = after_all rs started.heard;
+    earlier = record { heard = refl; words = refl };
+    newest = inl (record { heard = t.heard; said = refl });
+  };
 }
 
-wrote_whole : (reports : List Report) (said : List (List ℕ)) (ended : Driven) → length said ≡ length reports
-    → HasWritten reports said (written reports said) ended
-wrote_whole reports said driven.WriteFault e = part_whole reports said e
-wrote_whole reports said driven.Memory e = part_whole reports said e
-wrote_whole reports said _ e = refl
-
-followed_part : (reports : List Report) (said : List (List ℕ)) (before now : List Listener)
-    → Followed reports said before now → FollowedInPart reports said before now
-followed_part [] said before now f = record {
-  between = before;
-  earlier = record { heard = refl; words = ap all_but_newest f.words };
-  newest = f.heard;
+told_to : (over : Option OutFault) (started now : Audience) (reports : List Report) (ended : Driven)
+    → IsEndOf over ended → TellsAll over started now reports → HasToldTo ended started now reports
+told_to None started now reports driven.WriteFault so t = absurd (so refl)
+told_to None started now reports driven.Memory so t = in_part started now reports t
+told_to None started now reports _ so t = record {
+  said = said_of reports started.heard;
+  bytes = written reports (said_of reports started.heard);
+  grew = t.grew;
+  wrote = refl;
+  listened = record { heard = t.heard; words = refl };
 }
-followed_part (r ∷ rs) (w ∷ ws) before now f = record {
-  between = after_all rs before;
-  earlier = record { heard = refl; words = let e = f.words in cc };
-  newest = inl (record { heard = f.heard; said = let e = f.words in cc });
-}
-followed_part (r ∷ rs) [] before now f = absurd (let e = f.words in cc)
-
-followed_whole : (reports : List Report) (said : List (List ℕ)) (before now : List Listener) (ended : Driven)
-    → Followed reports said before now → HasFollowed reports said before now ended
-followed_whole reports said before now driven.WriteFault f = followed_part reports said before now f
-followed_whole reports said before now driven.Memory f = followed_part reports said before now f
-followed_whole reports said before now _ f = f
-
--- these reports were written and heard, or a part of them where the run ended so
-record Came (started audience : Audience) (ended : Driven) (reports : List Report) : Type 0 where
-  said : List (List ℕ)
-  bytes : List ℕ
-  grew : Appends started.holds audience.holds bytes
-  wrote : HasWritten reports said bytes ended
-  listened : HasFollowed reports said started.heard audience.heard ended
-
-came : (over : Option OutFault) (started audience : Audience) (was is : ℕ) (ended : Driven) (notes : List Note)
-    → IsEndOf over ended → AreNumbered notes → Tells over started audience was is notes
-    → Came started audience ended (reports_in notes)
-came None started audience was is ended notes so n t =
-    let told = t.0 n in
-    record {
-      said = told.0;
-      bytes = written (reports_in notes) told.0;
-      grew = told.1.grew;
-      wrote = wrote_whole (reports_in notes) told.0 ended told.1.each;
-      listened = followed_whole (reports_in notes) told.0 started.heard audience.heard ended told.1.followed;
-    }
-came (Some (fault.Failed failure)) started audience was is ended notes so n t =
-    let p = t.0 n in
-    let P : Driven → Type 0 = λ x. Came started audience x (reports_in notes) in
-    subst P (sym so) (record { said = p.said; bytes = p.bytes; grew = p.grew; wrote = p.wrote; listened = p.followed })
-came (Some fault.Memory) started audience was is ended notes so n t =
-    let p = t.0 n in
-    let P : Driven → Type 0 = λ x. Came started audience x (reports_in notes) in
-    subst P (sym so) (record { said = p.said; bytes = p.bytes; grew = p.grew; wrote = p.wrote; listened = p.followed })
+told_to (Some (fault.Failed failure)) started now reports ended so t =
+    subst (λ x. HasToldTo x started now reports) (sym so) t
+told_to (Some fault.Memory) started now reports ended so t =
+    subst (λ x. HasToldTo x started now reports) (sym so)
+    (record { said = t.said; bytes = t.bytes; grew = t.grew; wrote = t.wrote; listened = t.listened })
 
 pub ran_by : (config : DriveConfig) (before now : Option History) (started audience : Audience) (was is : ℕ)
     (saw : List Note → Type 0) (over : Option OutFault) (ended : Driven) → (m : Made config before now saw over ended)
@@ -212,7 +157,7 @@ pub ran_by : (config : DriveConfig) (before now : Option History) (started audie
     → Ran config before now started.holds audience.holds started.heard audience.heard ended
 ran_by config before now started audience was is saw over ended m t =
     let are = noted_so config m.history in
-    let c = subst (Came started audience ended) are.0 (came over started audience was is ended _ m.so are.1 t) in
+    let c = subst (HasToldTo ended started audience) are.0 (told_to over started audience _ ended m.so (t.0 are.1)) in
     record {
       history = m.history;
       told = m.told;
@@ -226,24 +171,9 @@ ran_by config before now started audience was is saw over ended m t =
       listened = c.listened;
     }
 
--- no write failed
-pub writes_same : (before now : ℕ) (ended : Driven) → (ended ≡ driven.WriteFault → ⊥) → now ≡ before
-    → CountsWriteFault before now ended
-writes_same before now driven.WriteFault never e = absurd (never refl)
-writes_same before now _ never e = e
-
--- the sink's faults of an observer that is over, or isn't
-abbrev pub CountsOver : Option OutFault → ℕ → ℕ → Type 0
-CountsOver None before now = now ≡ before
-CountsOver (Some cause) before now = CountsOutFault before now cause
-
 pub writes_by : (over : Option OutFault) (before now : ℕ) (ended : Driven) → IsEndOf over ended
     → CountsOver over before now → CountsWriteFault before now ended
-writes_by None before now ended so c = writes_same before now ended so c
+writes_by None before now driven.WriteFault so c = absurd (so refl)
+writes_by None before now _ so c = c
 writes_by (Some (fault.Failed failure)) before now ended so c = subst (CountsWriteFault before now) (sym so) c
 writes_by (Some fault.Memory) before now ended so c = subst (CountsWriteFault before now) (sym so) c
-
-pub tells_counts : (over : Option OutFault) (started now : Audience) (was is : ℕ) (notes : List Note)
-    → Tells over started now was is notes → CountsOver over was is
-tells_counts None started now was is notes t = t.1
-tells_counts (Some cause) started now was is notes t = t.1

@@ -1,6 +1,6 @@
 //! The observer that writes a run's reports, with what its followers say of them.
 ghost use Rattle.std.specs.Prelude.{Option, MatchResult};
-ghost use Rattle.css_drive.specs.Telling.{HasSaid, HasSaidFirst, Tells, WritesReport, audience};
+ghost use Rattle.css_drive.specs.Telling.{CountsOver, HasSaid, HasSaidFirst, Tells, Writes, audience};
 
 use crate::observes::Observes;
 use crate::session::Session;
@@ -44,9 +44,9 @@ fn tell_report<K: Sink, F: Listens>(
     sink: &mut K,
     followers: &mut F,
 ) -> Option<OutFault>
-    ensures { WritesReport result (audience (K.holds sink.old) (F.heard followers.old))
-        (audience (K.holds sink.new) (F.heard followers.new)) (K.faults sink.old) (K.faults sink.new)
-        number report.now }
+    ensures written { Writes result (audience (K.holds sink.old) (F.heard followers.old))
+        (audience (K.holds sink.new) (F.heard followers.new)) number report.now }
+    ensures counted { CountsOver result (K.faults sink.old) (K.faults sink.new) }
 {
     match text_of(alloc, number, report, followers) {
         Err(Memory) => Some(OutFault::Memory),

@@ -19,4 +19,4 @@ returns-clause-ran g c =
 pub returns-clause-write_faults : goal.returns-clause-write_faults
 returns-clause-write_faults g c =
     let made = c.drive.ensures.made in
-    reports.writes_by _ _ _ _ made.so (reports.tells_counts _ _ _ _ _ _ made.saw_so.2)
+    reports.writes_by _ _ _ _ made.so made.saw_so.2.1

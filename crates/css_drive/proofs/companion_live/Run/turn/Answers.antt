@@ -50,7 +50,7 @@ returns-then-is_late g c =
       made = c.in_ok-start.ensures.made;
       dials = c.start.ensures.dials;
       early = tt;
-      tried = λ started le tried few some none. runs.risen_to _ _ _ c.start.ensures.dials
+      tried = λ started le tried few some none. runs.risen_within _ _ _ _ (omega arith) c.start.ensures.dials
           (tried c.requires.reported (λ first. ends.never_late _ _ _ c.args.config.now.limit_range
           (c.in_ok-start.ensures.first first) late) (c.in_ok-start.ensures.dialled none));
     }

@@ -76,7 +76,7 @@ returns g c =
     ≤ (g.O.Outside.counts c.hang_up-ended.new.self.outside.now).dial_faults =
     omega (arith, i.dials, c.hang_up-ended.ensures.dials) in
     let hung = runs.hung_dials _ _ cfg.reports (facts_in c.turns.self.live) _ _ le (λ few none.
-    runs.risen_to _ _ _ c.hang_up-ended.ensures.dials (i.tried few (ends.has_begun w.stands over few) none))
+    runs.risen_within _ _ _ _ (omega arith) c.hang_up-ended.ensures.dials (i.tried few (ends.has_begun w.stands over few) none))
     c.ending-end.ensures c.hang_up-ended.ensures.kind in
     record {
       names = runs.names_on i.names c.hang_up-ended.ensures.names;
