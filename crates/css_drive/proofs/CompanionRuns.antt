@@ -71,6 +71,14 @@ risen_within was before mid now early late r = record {
   risen = λ lt. grind (arith, common_steps, early, r.kept, late, r.risen, lt);
 }
 
+-- one that rose since a later one
+pub risen_from : (was before now : ℕ) → was ≤ before → HasRisen before now → HasRisen was now
+risen_from was before now le r = risen_within was before now now le (omega arith) r
+
+-- or until an earlier one
+pub risen_to : (was before now : ℕ) → before ≤ now → HasRisen was before → HasRisen was now
+risen_to was before now le r = risen_within was was before now (omega arith) le r
+
 -- ---- what calls answer
 pub on_ok : {T E P : Type 0} (r : Result T E) → P → OnOk r P
 on_ok (Ok v) p = p

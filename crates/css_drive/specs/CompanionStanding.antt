@@ -7,7 +7,7 @@ use Rattle.css_model.specs.declared.Why.{Why}
 use Rattle.css_model.specs.declared.Kind.{Kind}
 use Rattle.css_model.specs.declared.Kind.TheVariants as kind
 use Rattle.css_model.specs.Explains.{IsLawful}
-use Rattle.css_model.specs.History.{Address, Dialling, Dialled, NotDialled, History}
+use Rattle.css_model.specs.History.{Address, Dialling, Dialled, NotDialled, HungUp, History}
 use Rattle.css_outside.specs.Faults.{HasRisen}
 use Rattle.css_outside.specs.Outsides.{Counts, with_entries, clock_entries, sleep_entries}
 use Rattle.css_outside.specs.declared.calls.Clocked.{Clocked}
@@ -311,6 +311,11 @@ pub record Hangs (config : DriveConfig) (before now : Shown) (saw : List Note �
   pub stands : Stands config before now saw live history
   pub lawful : IsLawful history
   pub hanging : IsHangingUp config end history
+
+-- the entries of a hang-up, where the session is open
+abbrev pub hung : Option ℕ → History
+hung None = []
+hung (Some peer) = HungUp peer ∷ []
 
 -- ---- runs
 -- An observer's run ended so: it saw all, but where a write failed or memory ran out.
