@@ -101,6 +101,11 @@ knows_tried k to None other knows =
 knows_tried k to (Some p) other knows =
     knows_plain (Dialled k p) (knows_dialling k to knows) refl refl refl refl refl refl (or_from _ _ other refl)
 
+-- the kind of a session
+abbrev pub kind_for : Session → Kind
+kind_for session.Cii = kind.Cii
+kind_for session.Ts = kind.Ts
+
 -- ---- what is due
 module _ {config : DriveConfig} {before now : Shown} {saw : List Note → Type 0} {live : Live} {history : History}
     (s : Stands config before now saw live history) where
@@ -145,17 +150,12 @@ module _ {config : DriveConfig} {before now : Shown} {saw : List Note → Type 0
       (ap {A = Facts} (λ x. x.wc) s.facts ∙ e)
 
   -- ---- whose session it is
-  cii_last : {p : ℕ} → live.cii_open ≡ Some p → dialled kind.Cii history ≡ Some p
-  cii_last {p} e = opened_dialled kind.Cii history p (ap {A = Facts} (λ x. x.cii_open) s.facts ∙ e)
+  last : (which : Session) {p : ℕ} → open_of which live ≡ Some p → dialled (kind_for which) history ≡ Some p
+  last session.Cii {p} e = opened_dialled kind.Cii history p (ap {A = Facts} (λ x. x.cii_open) s.facts ∙ e)
+  last session.Ts {p} e = opened_dialled kind.Ts history p (ap {A = Facts} (λ x. x.ts_open) s.facts ∙ e)
 
-  ts_last : {p : ℕ} → live.ts_open ≡ Some p → dialled kind.Ts history ≡ Some p
-  ts_last {p} e = opened_dialled kind.Ts history p (ap {A = Facts} (λ x. x.ts_open) s.facts ∙ e)
-
-  pub open_cii : {p : ℕ} → live.cii_open ≡ Some p → kind_of p history ≡ Some kind.Cii
-  open_cii {p} e = (s.peers kind.Cii p (cii_last e)).1
-
-  pub open_ts : {p : ℕ} → live.ts_open ≡ Some p → kind_of p history ≡ Some kind.Ts
-  open_ts {p} e = (s.peers kind.Ts p (ts_last e)).1
+  pub open_kind : (which : Session) {p : ℕ} → open_of which live ≡ Some p → kind_of p history ≡ Some (kind_for which)
+  open_kind which {p} e = (s.peers (kind_for which) p (last which e)).1
 
 -- ---- readings
 -- a sleep that a reading told
@@ -237,7 +237,7 @@ module _ {config : DriveConfig} {before now : Shown} {saw : List Note → Type 0
   -- ---- which session it is
   pub cii_at : {p : ℕ} → live.cii_open ≡ Some p → session_at p history ≡ Some session.Cii
   cii_at {p} e =
-      ap (λ o. session_with o (dialled kind.Ts history) p) (cii_last s e)
+      ap (λ o. session_with o (dialled kind.Ts history) p) (last s session.Cii e)
       ∙ ap (λ b. cond b (Some session.Cii) (cond (is_peer (dialled kind.Ts history) p) (Some session.Ts) None))
       (eq-eqb p p refl)
 
@@ -245,8 +245,8 @@ module _ {config : DriveConfig} {before now : Shown} {saw : List Note → Type 0
   ts_at {p} e =
       ap (λ b. cond b (Some session.Cii) (cond (is_peer (dialled kind.Ts history) p) (Some session.Ts) None))
       (other_open history (dialled kind.Cii history) kind.Cii kind.Ts p (λ q x. (s.peers kind.Cii q x).1)
-      (open_ts s e) (λ x. cc))
-      ∙ ap (λ o. cond (is_peer o p) (Some session.Ts) None) (ts_last s e)
+      (open_kind s session.Ts e) (λ x. cc))
+      ∙ ap (λ o. cond (is_peer o p) (Some session.Ts) None) (last s session.Ts e)
       ∙ ap (λ b. cond b (Some session.Ts) None) (eq-eqb p p refl)
 
 -- ---- notes
@@ -289,22 +289,12 @@ heard config p bytes history k is =
     ap (λ x. unless_refused (refusal_of (cond (is_cii x) (Some bytes) None) history) (cond (is_ts x) (from_end config
     (Heard p bytes ∷ history)) (from_ts_text config (Heard p bytes ∷ history)))) is
 
--- the kind of a session, and what is due after it was heard
-abbrev pub kind_for : Session → Kind
-kind_for session.Cii = kind.Cii
-kind_for session.Ts = kind.Ts
-
+-- what is due after a session was heard
 pub after_is : (which : Session) (config : DriveConfig) (history : History)
     → cond (is_ts (Some (kind_for which))) (from_end config history) (from_ts_text config history)
     ≡ after_text which config history
 after_is session.Cii config history = refl
 after_is session.Ts config history = refl
-
-pub open_kind : {config : DriveConfig} {before now : Shown} {saw : List Note → Type 0} {live : Live}
-    {history : History} → Stands config before now saw live history → (which : Session) → {p : ℕ}
-    → open_of which live ≡ Some p → kind_of p history ≡ Some (kind_for which)
-open_kind s session.Cii e = open_cii s e
-open_kind s session.Ts e = open_ts s e
 
 -- a refused text ends the run so
 pub refusal_ends : (refusal : Option CompanionFault) (rest : Due) (ended : Driven) → IsRefusal refusal ended

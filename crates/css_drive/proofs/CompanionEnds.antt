@@ -17,7 +17,7 @@ use Rattle.css_companion.proofs.Headline as headline
 use Rattle.css_drive.specs.CompanionDue.{due, hang_up, from_hang_ups, from_turn, from_cii, from_end, final, is_short}
 use Rattle.css_drive.specs.CompanionReports.{due_reports, report_at, is_due, IsPromisedAt, KeepsPromises}
 use Rattle.css_drive.specs.CompanionStanding.{Shown, Facts, facts_of, facts_in, Stands}
-use Rattle.css_drive.specs.CompanionStanding.{IsHangingUp, Hangs, Stops, Adds, ending_of, is_another, open_of, still, without}
+use Rattle.css_drive.specs.CompanionStanding.{Hangs, Stops, Adds, ending_of, is_another, open_of, still, without}
 use Rattle.css_drive.specs.CompanionTurns.{turn_at, first_turn, turns, first_of, counted, is_late, goes_on}
 use Rattle.css_drive.specs.CompanionTurns.{dialled, any_dialled, unless}
 use Rattle.css_drive.specs.Ends.{MayEnd}
@@ -169,12 +169,15 @@ module _ {config : DriveConfig} {before now : Shown} {saw : List Note → Type 0
       s.facts ∙ ap (λ b. cond b (Now why.Turn) (from_hang_ups (final config history) history)) e
 
   pub is_over : due config history ≡ from_end config history → is_another config (facts_in live) ≡ false
-      → IsHangingUp config (ending_of config.reports (facts_in live)) history
-  is_over d last =
+      → IsLawful history → Hangs config before now saw live (ending_of config.reports (facts_in live))
+  is_over d last lawful =
       let f : final config history ≡ ending_of config.reports (facts_in live) =
       ap (λ b. cond (is_short config history) (cond b (driven.Spent (turns history)) (driven.Unreachable (turns
       history))) driven.Done) (any_is history) ∙ ap (ending_of config.reports) s.facts in
       record {
+        history = history;
+        stands = s;
+        lawful = lawful;
         first = at_end d false last ∙ ap (λ x. from_hang_ups x history) f;
         final_so = f;
       }
@@ -220,15 +223,13 @@ module _ {config : DriveConfig} {before now : Shown} {saw : List Note → Type 0
         stands_adds x.stands (HangUp p) d (HungUp p ∷ []) refl x.stands.peers adds x.stands.saw_so later (ap (without p)
         x.stands.facts ∙ sym is);
     lawful = record { rises = (tt, x.lawful.rises); asks = (tt, x.lawful.asks) };
-    hanging = record {
-      first = ap (λ y. from_hang_ups y (HungUp p ∷ x.history)) x.hanging.final_so;
-      final_so = x.hanging.final_so;
-    };
+    first = ap (λ y. from_hang_ups y (HungUp p ∷ x.history)) x.final_so;
+    final_so = x.final_so;
   }
 
   -- what is left to do
   pub left : due config x.history ≡ hang_up live.cii_open (hang_up live.ts_open (Ends end))
-  left = x.hanging.first ∙ ap {A = Facts} (λ y. hang_up y.cii_open (hang_up y.ts_open (Ends end))) x.stands.facts
+  left = x.first ∙ ap {A = Facts} (λ y. hang_up y.cii_open (hang_up y.ts_open (Ends end))) x.stands.facts
 
   pub cii_shut : live.cii_open ≡ None → due config x.history ≡ hang_up live.ts_open (Ends end)
   cii_shut none = left ∙ ap (λ o. hang_up o (hang_up live.ts_open (Ends end))) none
@@ -238,6 +239,6 @@ module _ {config : DriveConfig} {before now : Shown} {saw : List Note → Type 0
       → Stops config before now saw over end
   hung_up no_cii no_ts =
       let P : Driven → Type 0 = λ y. MayEnd (Ends y) y × IsOwn y in
-      let may = subst P x.hanging.final_so (final_ends config x.history) in
+      let may = subst P x.final_so (final_ends config x.history) in
       stops_here x.stands x.lawful _ end may.1 (ends_by _ _ end (cii_shut no_cii ∙ ap (λ o. hang_up o (Ends end)) no_ts)
       may.0)

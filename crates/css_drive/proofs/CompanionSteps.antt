@@ -126,27 +126,23 @@ pub own_quiet : (ended : Driven) → IsOwn ended → IsNetFault ended → ⊥
 own_quiet (driven.NetFault failure) own n = own
 own_quiet _ own n = n
 
--- a call that was not made or failed
-pub fails_so : (over : Option OutFault) (ended : Driven) → IsEndBy over ended → IsSo over ended
-fails_so None (driven.NetFault failure) f = refl
-fails_so None driven.Memory f = tt
-fails_so None _ f = absurd f
-fails_so (Some (fault.Failed failure)) ended f =
-    let P : Driven → Type 0 = λ x. IsSo (Some (fault.Failed failure)) x in
-    let never : Some (fault.Failed failure) ≡ None → ⊥ = λ e. cc in
-    subst P (sym f) never
-fails_so (Some fault.Memory) ended f = let P : Driven → Type 0 = λ x. IsSo (Some fault.Memory) x in subst P (sym f) tt
-
 -- nothing was told, and it ends by a fault
 pub fault_ends : (d : Due) (ended : Driven) → IsFault ended → MayEnd d ended
 fault_ends d (driven.NetFault failure) f = tt
 fault_ends d driven.Memory f = tt
 fault_ends d _ f = absurd f
 
-pub fails_end : (d : Due) (over : Option OutFault) (ended : Driven) → IsEndBy over ended → MayEnd d ended
-fails_end d None ended f = fault_ends d ended f
-fails_end d (Some (fault.Failed failure)) ended f = subst (MayEnd d) (sym f) tt
-fails_end d (Some fault.Memory) ended f = subst (MayEnd d) (sym f) tt
+-- a call that was not made or failed
+fails_end : (d : Due) (over : Option OutFault) (ended : Driven) → IsEndBy over ended → MayEnd d ended × IsSo over ended
+fails_end d None (driven.NetFault failure) f = (tt, refl)
+fails_end d None driven.Memory f = (tt, tt)
+fails_end d None _ f = absurd f
+fails_end d (Some (fault.Failed failure)) ended f =
+    let P : Driven → Type 0 = λ x. MayEnd d x × IsSo (Some (fault.Failed failure)) x in
+    let never : Some (fault.Failed failure) ≡ None → ⊥ = λ e. cc in
+    subst P (sym f) (tt, never)
+fails_end d (Some fault.Memory) ended f =
+    let P : Driven → Type 0 = λ x. MayEnd d x × IsSo (Some fault.Memory) x in subst P (sym f) (tt, tt)
 
 -- a `?` that ends the function
 pub at_err : {T E : Type 0} (P : T → Type 0) (Q : E → Type 0) (e : E) (r : Result T E) → IsErrAnd r (λ x. x ≡ e) → Q e
@@ -248,9 +244,9 @@ module _ {config : DriveConfig} {before now : Shown} {saw : List Note → Type 0
         counted = subst P s.faults f.counted;
         proper = s.proper;
         lawful = lawful;
-        ends = fails_end (due config history) over ended f.end;
+        ends = (fails_end (due config history) over ended f.end).0;
         saw_so = notes;
-        so = fails_so over ended f.end;
+        so = (fails_end (due config history) over ended f.end).1;
       }
 
   -- and a `?` ends the function

@@ -299,18 +299,14 @@ IsRefusal refusal driven.Memory = ⊤
 IsRefusal None ended = ⊥
 IsRefusal (Some fault) ended = ended ≡ end_by fault
 
--- the sessions that are open are to be hung up, and then the run ends so
-pub record IsHangingUp (config : DriveConfig) (end : Driven) (history : History) : Type 0 where
-  pub first : due config history ≡ from_hang_ups end history
-  pub final_so : final config history ≡ end
-
 -- the run hangs up the sessions that are open, to end so
 pub record Hangs (config : DriveConfig) (before now : Shown) (saw : List Note → Type 0) (live : Live) (end : Driven)
     : Type 0 where
   pub history : History
   pub stands : Stands config before now saw live history
   pub lawful : IsLawful history
-  pub hanging : IsHangingUp config end history
+  pub first : due config history ≡ from_hang_ups end history
+  pub final_so : final config history ≡ end
 
 -- the entries of a hang-up, where the session is open
 abbrev pub hung : Option ℕ → History

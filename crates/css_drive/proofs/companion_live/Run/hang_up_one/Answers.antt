@@ -11,7 +11,8 @@ returns-clause-goes g c cfg before started end x rest d =
     c.close.ensures
 
 pub returns-clause-shut : goal.returns-clause-shut
-returns-clause-shut g c = ends.shut c.args.session _ c.close.new.self c.close.ensures (sym c.peer_of.ensures ∙ c.in-Some.is)
+returns-clause-shut g c =
+    ends.shut c.args.session _ c.close.new.self c.close.ensures (sym c.peer_of.ensures ∙ c.in-Some.is)
 
 pub returns-clause-cii : goal.returns-clause-cii
 returns-clause-cii g c none =

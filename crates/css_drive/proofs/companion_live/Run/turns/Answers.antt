@@ -1,6 +1,6 @@
 use Rattle.std.proofs.Common.{◌≤◌, refl, sym, ◌∙◌, subst, ap, arith, true}
 use Rattle.std.proofs.lemmas.Bool.{ltb-true}
-use Rattle.css_drive.specs.CompanionStanding.{Facts, IsHangingUp, facts_in}
+use Rattle.css_drive.specs.CompanionStanding.{Facts, Hangs, facts_in, shown_of}
 use Rattle.css_drive.specs.Ends.{CountsDialFaults}
 use Rattle.css_drive.specs.declared.driven.Driven.{Driven}
 use Rattle.css_drive.proofs.CompanionSteps.{comes}
@@ -49,8 +49,7 @@ returns-in-Err g c =
     let le : (g.O.Outside.counts c.args.self.now.outside.now).dial_faults
     ≤ (g.O.Outside.counts c.turn.new.self.outside.now).dial_faults = omega (arith, c.turn.ensures.dials, i.dials) in
     record {
-      names = let n = runs.names_on i.names c.turn.ensures.names in
-          record { outside = n.outside; observer = n.observer; companion = n.companion };
+      names = runs.names_on i.names c.turn.ensures.names;
       made = runs.made_of cfg _ _ _ _ _ _ c.ended_by.ensures s;
       net_faults = runs.counted_of cfg _ _ _ _ _ _ c.ended_by.ensures s;
       dial_faults =
@@ -64,14 +63,11 @@ returns g c =
     let i = c.turns.invariant in
     let w = i.run in
     let over = sym c.goes_again.ensures ∙ c.turns-test.false in
-    let P : Driven → Type 0 = λ x. IsHangingUp cfg x w.history in
-    let hanging = subst P (sym c.ending-end.ensures) (ends.is_over w.stands w.next over) in
-    let s = c.hang_up-ended.ensures.stops _ _ _ (record {
-      history = w.history;
-      stands = w.stands;
-      lawful = w.known.stands.client.lawful;
-      hanging = hanging;
-    }) in
+    let P : Driven → Type 0 = λ x. Hangs cfg (shown_of g.O.Outside.told g.O.Outside.counts c.args.self.now)
+    (shown_of g.O.Outside.told g.O.Outside.counts c.turns.self)
+    (g.W.Observes.saw c.args.self.now.observer.now c.turns.self.observer.now) c.turns.self.live x in
+    let s = c.hang_up-ended.ensures.stops _ _ _
+    (subst P (sym c.ending-end.ensures) (ends.is_over w.stands w.next over w.known.stands.client.lawful)) in
     let le : (g.O.Outside.counts c.args.self.now.outside.now).dial_faults
     ≤ (g.O.Outside.counts c.hang_up-ended.new.self.outside.now).dial_faults =
     omega (arith, i.dials, c.hang_up-ended.ensures.dials) in
