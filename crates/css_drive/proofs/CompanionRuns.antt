@@ -1,6 +1,6 @@
 -- What the turns of a run come to.
 use Rattle.std.proofs.Common.{◌≡◌, ◌≤◌, ℕ, ap, sym, ◌∙◌, subst, refl, inl, inr, arith, [], Option, Some, None, Result}
-use Rattle.std.proofs.Common.{Ok, Err, List, Bool, true, false, cond}
+use Rattle.std.proofs.Common.{Ok, Err, List, Bool, true, cond}
 use Rattle.std.proofs.lemmas.Bool.{ltb-true}
 use Rattle.std.proofs.lemmas.Grind.{common_steps}
 use Rattle.std.specs.Prelude.{◌⊎◌, OnOk, ◌<◌, ◌||◌, is_some, nat_lt}
