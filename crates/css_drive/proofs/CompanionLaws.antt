@@ -39,7 +39,6 @@ use Rattle.css_cii.specs.States.{empty}
 use Rattle.css_cii.specs.declared.state.State.{State}
 use Rattle.css_tsmsg.specs.Controls.{control_of}
 use Rattle.css_tsmsg.specs.declared.fault.TsFault.{TsFault}
-use Rattle.css_companion.specs.Contents.{next_number, state_after}
 use Rattle.css_companion.specs.Meanings.{kind_of, is_cii, is_ts, counted, merged_with, texts_of, state_of, control_by}
 use Rattle.css_companion.specs.Meanings.{is_closed}
 use Rattle.css_companion.specs.Printed.{line_of}
