@@ -51,10 +51,7 @@ fn tell_report<K: Sink, F: Listens>(
 {
     match text_of(alloc, number, report, followers) {
         Err(Memory) => Some(OutFault::Memory),
-        Ok(text) => match write_all(sink, text.bytes()) {
-            Ok(()) => None,
-            Err(fault) => Some(fault),
-        },
+        Ok(text) => write_all(sink, text.bytes()).err(),
     }
 }
 
