@@ -20,9 +20,7 @@ use Rattle.css_companion.specs.declared.report.Report.{Report}
 use Rattle.css_follow.specs.Following.{Seen, told, told_unless, after, ends_by}
 use Rattle.css_drive.specs.CompanionDue as dues
 use Rattle.css_drive.specs.CompanionDue.{Point, due, due_at, dial_to, dial_first, take_text, hang_up, sending, send_to}
-use Rattle.css_drive.specs.CompanionDue.{from_hang_ups, from_cii, from_wc, from_ts, from_ask, from_take, from_cii_text}
-use Rattle.css_drive.specs.CompanionDue.{from_ts_text, from_end, final, is_short, refusal, place, window_text}
-use Rattle.css_drive.specs.CompanionDue.{unless_refused, point_of, end_by, IsProperRun}
+use Rattle.css_drive.specs.CompanionDue.{is_short, refusal, unless_refused, point_of, end_by, IsProperRun}
 use Rattle.css_drive.specs.CompanionLaws.{ReportsAreAsAsked, FollowersHear, HasHeard, EachHasHeard}
 use Rattle.css_drive.specs.CompanionReports.{due_reports}
 use Rattle.css_drive.specs.CompanionRun.{after_all}
@@ -41,7 +39,6 @@ use Rattle.css_cii.specs.States.{empty}
 use Rattle.css_cii.specs.declared.state.State.{State}
 use Rattle.css_tsmsg.specs.Controls.{control_of}
 use Rattle.css_tsmsg.specs.declared.fault.TsFault.{TsFault}
-use Rattle.css_companion.specs.Contents.{next_number, state_after}
 use Rattle.css_companion.specs.Meanings.{kind_of, is_cii, is_ts, counted, merged_with, texts_of, state_of, control_by}
 use Rattle.css_companion.specs.Meanings.{is_closed}
 use Rattle.css_companion.specs.Printed.{line_of}
@@ -82,8 +79,7 @@ each_more report reports (b ∷ bs) (m ∷ ms) e = (
   hears_more report reports b.seen m.seen (words_of report m) (ends_by m.plan m.seen report) e.0,
   each_more report reports bs ms e.1,
 )
-each_more report reports [] (m ∷ ms) e = absurd e
-each_more report reports (b ∷ bs) [] e = absurd e
+each_more report reports _ _ e = absurd e
 
 each_none : (before : List Listener) → EachHasHeard [] before before
 each_none [] = tt
@@ -196,21 +192,17 @@ with_one false report reports n lt = omega (arith, lt)
 abbrev Within : DriveConfig → History → Type 0
 Within config h = length (due_reports config h) ≤ config.reports
 
-turn_within : (config : DriveConfig) (h : History) (reading : ℕ) (slept : Bool)
-    → length (due_reports config h) < config.reports
-    → Within config (Clock why.Turn reading ∷ (sleep_entries slept ++ h))
-turn_within config h reading true lt = with_one _ _ _ _ lt
-turn_within config h reading false lt = with_one _ _ _ _ lt
-
 module _ (config : DriveConfig) (older : History) (w : Within config older) where
   put : (call entries : History) → call ≡ entries → Within config (entries ++ older) → Within config (call ++ older)
   put call entries is v = subst (λ (c : History). Within config (c ++ older)) (sym is) v
 
+  some_left : due config older ≡ Now why.Turn → length (due_reports config older) < config.reports
+  some_left e = ltb-true _ _ (subst (Verdict (is_short config older)) e (settled config older))
+
   read : (y : Why) (reading : ℕ) (slept : Bool) → due config older ≡ Now y
       → Within config (Clock y reading ∷ (sleep_entries slept ++ older))
-  read why.Turn reading slept e =
-      turn_within config older reading slept
-      (ltb-true _ _ (subst (Verdict (is_short config older)) e (settled config older)))
+  read why.Turn reading true e = with_one _ _ _ _ (some_left e)
+  read why.Turn reading false e = with_one _ _ _ _ (some_left e)
   read _ reading true e = w
   read _ reading false e = w
 
@@ -268,25 +260,34 @@ known_of h = record {
   ended = is_closed h;
 }
 
--- ---- the same, as the happenings have it
--- the answer that these bytes are, where these requests may still be answered
-abbrev awaited : List Stamp → List ℕ → Option Message
-awaited asks bytes = option_and_then (λ (m : Message).
-    if list_any (λ stamp. is_same_stamp stamp m.originate) (take 64 asks) then Some m else None) (answer_in bytes)
+-- what is known after a datagram that was taken, if one was, and after a text of a session of this kind, and its end
+abbrev landed_at : Option (List ℕ) → ℕ → Known → Known
+landed_at taken reading x = record x {
+  landed = option_to_list (option_map (λ m. record { message = m; reading = reading }) (option_and_then
+      (λ (m : Message). if list_any (λ stamp. is_same_stamp stamp m.originate) (take 64 x.asks) then Some m
+      else None) (option_and_then answer_in taken))) ++ x.landed;
+}
 
+abbrev told_by : Option Kind → List ℕ → Known → Known
+told_by k bytes x = record x {
+  texts = counted (if is_cii k then Some bytes else None) x.texts;
+  state = merged_with (if is_cii k then Some bytes else None) x.texts x.state;
+  control = option_or (option_map control_of (if is_ts k then Some bytes else None)) x.control;
+}
+
+abbrev ended_by : Option Kind → Known → Known
+ended_by k x = record x { ended = is_ts k || x.ended }
+
+-- ---- the same, as the happenings have it
 abbrev after_it : Happening → Known → Known
 after_it Sleep x = record x { asks = []; landed = [] }
 after_it (Asks bytes) x =
     record x { asks = option_to_list (option_map (λ (m : Message). m.originate) (request_in bytes)) ++ x.asks }
-after_it (Lands bytes reading) x = record x {
-  landed = option_to_list (option_map (λ m. record { message = m; reading = reading }) (awaited x.asks bytes))
-      ++ x.landed;
-}
-after_it (TellsCii bytes) x =
-    record x { texts = next_number x.texts; state = state_after (next_number x.texts) x.state bytes }
-after_it (TellsTs bytes) x = record x { control = Some (control_of bytes) }
+after_it (Lands bytes reading) x = landed_at (Some bytes) reading x
+after_it (TellsCii bytes) x = told_by (Some kind.Cii) bytes x
+after_it (TellsTs bytes) x = told_by (Some kind.Ts) bytes x
 after_it BeginsTs x = record x { control = None; ended = false }
-after_it EndsTs x = record x { ended = true }
+after_it EndsTs x = ended_by (Some kind.Ts) x
 
 abbrev known_in : List Happening → Known
 known_in [] = record { asks = []; landed = []; texts = 0; state = empty; control = None; ended = false }
@@ -294,28 +295,18 @@ known_in (happening ∷ earlier) = after_it happening (known_in earlier)
 
 -- ---- entries that may be no happening
 landing_same : (taken : Option (List ℕ)) (reading : ℕ) (earlier : List Happening) (x : Known) → x ≡ known_in earlier
-    → record x {
-      landed = option_to_list (option_map (λ m. record { message = m; reading = reading }) (option_and_then
-          (λ (m : Message). if list_any (λ stamp. is_same_stamp stamp m.originate) (take 64 x.asks) then Some m
-          else None) (option_and_then answer_in taken))) ++ x.landed;
-    }
-    ≡ known_in (with_happening (landing taken reading) earlier)
+    → landed_at taken reading x ≡ known_in (with_happening (landing taken reading) earlier)
 landing_same None reading earlier x e = e
 landing_same (Some bytes) reading earlier x e = ap (after_it (Lands bytes reading)) e
 
 text_same : (k : Option Kind) (bytes : List ℕ) (earlier : List Happening) (x : Known) → x ≡ known_in earlier
-    → record x {
-      texts = counted (if is_cii k then Some bytes else None) x.texts;
-      state = merged_with (if is_cii k then Some bytes else None) x.texts x.state;
-      control = option_or (option_map control_of (if is_ts k then Some bytes else None)) x.control;
-    }
-    ≡ known_in (with_happening (text_of k bytes) earlier)
+    → told_by k bytes x ≡ known_in (with_happening (text_of k bytes) earlier)
 text_same (Some kind.Cii) bytes earlier x e = ap (after_it (TellsCii bytes)) e
 text_same (Some kind.Ts) bytes earlier x e = ap (after_it (TellsTs bytes)) e
 text_same _ bytes earlier x e = e
 
 end_same : (k : Option Kind) (earlier : List Happening) (x : Known) → x ≡ known_in earlier
-    → record x { ended = is_ts k || x.ended } ≡ known_in (with_happening (end_of k) earlier)
+    → ended_by k x ≡ known_in (with_happening (end_of k) earlier)
 end_same (Some kind.Ts) earlier x e = ap (after_it EndsTs) e
 end_same _ earlier x e = e
 

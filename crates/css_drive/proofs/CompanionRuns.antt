@@ -1,6 +1,6 @@
 -- What the turns of a run come to.
 use Rattle.std.proofs.Common.{◌≡◌, ◌≤◌, ℕ, ap, sym, ◌∙◌, subst, refl, inl, inr, arith, [], Option, Some, None, Result}
-use Rattle.std.proofs.Common.{Ok, Err, List, Bool, true, false, cond}
+use Rattle.std.proofs.Common.{Ok, Err, List, Bool, true, cond}
 use Rattle.std.proofs.lemmas.Bool.{ltb-true}
 use Rattle.std.proofs.lemmas.Grind.{common_steps}
 use Rattle.std.specs.Prelude.{◌⊎◌, OnOk, ◌<◌, ◌||◌, is_some, nat_lt}
@@ -54,8 +54,7 @@ pub hung_dials : (before now reports : ℕ) (facts : Facts) (end ended : Driven)
     → (facts.reported < reports → facts.cii ≡ None → HasRisen before now) → end ≡ ending_of reports facts
     → (ended ≡ end) ⊎ IsEarly ended → CountsDialFaults before now ended
 hung_dials before now reports facts end ended le tried so (inl e) =
-    let P : Driven → Type 0 = λ x. CountsDialFaults before now x in
-    subst P (sym (e ∙ so)) (by (nat_lt facts.reported reports) refl facts.cii refl facts.wc facts.ts)
+    subst (CountsDialFaults before now) (sym (e ∙ so)) (by (nat_lt facts.reported reports) refl facts.cii refl facts.wc facts.ts)
   where
     by : (short : Bool) → nat_lt facts.reported reports ≡ short → (cii : Option ℕ) → facts.cii ≡ cii
         → (wc ts : Option ℕ) → CountsDialFaults before now (cond short (cond (is_some cii || (is_some wc || is_some ts))

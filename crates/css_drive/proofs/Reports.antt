@@ -63,8 +63,7 @@ pub tells_reported : (was_over over : Option OutFault) (started old new : Audien
     → Tells was_over started old was before notes → Writes over old new number report → CountsOver over before now
     → Tells over started new was now (Reported from number report ∷ (turn_notes from clocked ++ notes))
 tells_reported was_over over started old new was before now number report from clocked notes on told w counted =
-    let P : Option OutFault → Type 0 = λ x. Tells x started old was before notes in
-    let t = subst P on told in
+    let t = subst (λ x. Tells x started old was before notes) on told in
     by clocked.slept (
       λ numbered. told_newest over started old new report (reports_in notes) (t.0 numbered.1)
           (subst (λ n. Writes over old new n report) numbered.0 w),
@@ -81,8 +80,7 @@ tells_reported was_over over started old new was before now number report from c
 -- nothing is told yet
 pub tells_nothing : (over : Option OutFault) (now : Audience) (is : ℕ) → over ≡ None → Tells over now now is is []
 tells_nothing over now is on =
-    let P : Option OutFault → Type 0 = λ x. Tells x now now is is [] in
-    subst P (sym on) (λ numbered. record { grew = Appends-nil now.holds; heard = refl }, refl)
+    subst (λ x. Tells x now now is is []) (sym on) (λ numbered. record { grew = Appends-nil now.holds; heard = refl }, refl)
 
 -- ---- the reports of a run
 -- the reports among these notes are these, and have their numbers

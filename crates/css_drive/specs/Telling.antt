@@ -14,16 +14,10 @@ use Rattle.css_drive.specs.declared.driven.Driven.{Driven}
 use Rattle.css_drive.specs.declared.driven.Driven.TheVariants as driven
 
 -- ---- one report
--- A report has this text, its line and what the followers said of it.
-pub record HasSaid (number : ℕ) (report : Report) (before now : List Listener) (text : List ℕ) : Type 0 where
-  pub words : List ℕ
-  pub is : text ≡ line_of number report None ++ words
-  pub heard : HearEach report before now words
-
--- a report has no text, and the first of the followers heard it
-pub record HasSaidFirst (report : Report) (before now : List Listener) : Type 0 where
-  pub words : List ℕ
-  pub heard : HearFirst report before now words
+-- a report has this text, its line and what the followers said of it
+abbrev pub HasSaid : ℕ → Report → List Listener → List Listener → List ℕ → Type 0
+HasSaid number report before now text =
+    (words : List ℕ) × (text ≡ line_of number report None ++ words) × HearEach report before now words
 
 -- what a sink holds, and what its followers heard
 pub record Audience : Type 0 where

@@ -1,6 +1,7 @@
 //! The observer that writes a run's reports, with what its followers say of them.
-ghost use Rattle.std.specs.Prelude.{Option, MatchResult};
-ghost use Rattle.css_drive.specs.Telling.{CountsOver, HasSaid, HasSaidFirst, Tells, Writes, audience};
+ghost use Rattle.std.specs.Prelude.{ℕ, List, Option, MatchResult};
+ghost use Rattle.css_drive.specs.Telling.{CountsOver, HasSaid, Tells, Writes, audience};
+ghost use Rattle.css_drive.specs.CompanionRun.{HearFirst};
 
 use crate::observes::Observes;
 use crate::session::Session;
@@ -29,7 +30,7 @@ fn text_of<F: Listens>(
 ) -> Result<Text, Memory>
     ensures told { MatchResult result
         (HasSaid number report.now (F.heard followers.old) (F.heard followers.new))
-        (λ _. HasSaidFirst report.now (F.heard followers.old) (F.heard followers.new)) }
+        (λ _. (words : List ℕ) × HearFirst report.now (F.heard followers.old) (F.heard followers.new) words) }
 {
     let mut text = line(alloc, number, report, None)?;
     followers.tell(report, &mut text)?;
@@ -50,10 +51,7 @@ fn tell_report<K: Sink, F: Listens>(
 {
     match text_of(alloc, number, report, followers) {
         Err(Memory) => Some(OutFault::Memory),
-        Ok(text) => match write_all(sink, text.bytes()) {
-            Ok(()) => None,
-            Err(fault) => Some(fault),
-        },
+        Ok(text) => write_all(sink, text.bytes()).err(),
     }
 }
 
