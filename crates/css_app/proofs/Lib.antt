@@ -1,3 +1,1 @@
-pub mod LiveEnds
-pub mod Taken
 pub mod Commands

@@ -21,31 +21,27 @@ use Rattle.css_schedule.specs.declared.line.ScriptLine.{ScriptLine}
 use Rattle.css_record.specs.Runs.{Recorded}
 use Rattle.css_survey.specs.Generated.{schedule_text}
 use Rattle.css_survey.specs.Surveyed.{survey_text}
-use Rattle.css_tv.specs.declared.config.TvConfig.{TvConfig}
 use Rattle.css_words.specs.Commands.{Asked, Replay, Agree, Audit, Migrate, Companion, Tv, Pair, Relay, Generate}
-use Rattle.css_words.specs.Commands.{Survey, Watch, asked_of, command_in}
+use Rattle.css_words.specs.Commands.{Survey, Watch, command_in}
 use Rattle.css_words.specs.Companion.{CompanionAsked, OptionsAsked}
 use Rattle.css_words.specs.Generator.{GeneratorAsked}
 use Rattle.css_words.specs.Pair.{PairAsked}
 use Rattle.css_words.specs.Relay.{RelayAsked}
 use Rattle.css_words.specs.Tv.{TvAsked}
+use Rattle.css_watch.specs.declared.config.WatchConfig.{WatchConfig}
 use Rattle.css_words.specs.Watch.{WatchAsked}
-use Rattle.css_words.specs.declared.command.Command.{Command}
 use Rattle.css_words.specs.declared.fault.WordsFault.{WordsFault}
 use Rattle.css_words.specs.declared.fault.WordsFault.TheVariants as words
-use Rattle.css_app.specs.declared.live_pair.Child.{Child}
 use Rattle.css_replay.specs.declared.status.Status.{Status}
 use Rattle.css_replay.specs.declared.status.Status.TheVariants as status
 use Rattle.css_replay.specs.Devices.{SourceUse, SinkUse}
-use Rattle.css_replay.specs.Does.{ByReplay, OverLines}
-use Rattle.css_app.specs.Devices.{AreUntouched, OutsideUse, SpawnerUse, FollowersUse, Uses, unused}
-use Rattle.css_app.specs.Ended.{Writes, agree_refused, audit_refused, line_refused}
-use Rattle.css_replay.specs.Ended.{HasNotFailed, IsDoneUnlessMemory, IsNoUsage}
-use Rattle.css_app.specs.Live.{HasNoScript, HasNoSheet, IsAsDue, IsMadeAsDue, RunsBySheet, Serves, ServesAsDue}
-use Rattle.css_app.specs.Live.{driven_status}
-use Rattle.css_app.specs.Pairs.{AreLeft, ArePairedAsDue, PairsByScript, address_at}
-use Rattle.css_app.specs.Scripts.{script_in}
-use Rattle.css_app.specs.Watches.{IsAskedWatch, EndsAtLastUnlessMemory, MakesWatch}
+use Rattle.css_replay.specs.Ended.{ByReplay, OverLines}
+use Rattle.css_replay.specs.Ended.{HasNotFailed, IsDoneUnlessMemory}
+use Rattle.css_app.specs.declared.live_pair.Child.{Child}
+use Rattle.css_app.specs.Ended.{Writes, agree_refused, audit_refused, line_refused, script_in}
+use Rattle.css_app.specs.Live.{AreLeft, ArePairedAsDue, AreUntouched, EndsAtLastUnlessMemory, FollowersUse, HasNoScript}
+use Rattle.css_app.specs.Live.{HasNoSheet, IsAsDue, IsMadeAsDue, MakesWatch, OutsideUse, PairsByScript, RunsBySheet}
+use Rattle.css_app.specs.Live.{Serves, ServesAsDue, SpawnerUse, Uses, address_at, driven_status, unused}
 
 -- what a command line asks for
 abbrev pub asked_by : {A : Type 0} → List (String A) → Result Asked WordsFault
@@ -107,19 +103,19 @@ pub record IsAskedRun (asked : OptionsAsked) (cii : Address) (run : DriveConfig)
   pub ask_every : run.ask_every ≡ asked.ask_every
   pub present : run.present ≡ asked.present
 
--- the television that the options ask for
-abbrev pub asked_tv : TvAsked → TvConfig
-asked_tv asked = record {
-  precision = asked.precision;
-  error = asked.error;
-  follow = asked.follow;
-  host = asked.host;
-  port = asked.port;
-}
-
--- its run
+-- the television's run that the options ask for
 abbrev pub asked_drive : TvAsked → TvDrive
-asked_drive asked = record { tv = asked_tv asked; limit = asked.limit; relative = asked.relative }
+asked_drive asked = record {
+  tv = record {
+    precision = asked.precision;
+    error = asked.error;
+    follow = asked.follow;
+    host = asked.host;
+    port = asked.port;
+  };
+  limit = asked.limit;
+  relative = asked.relative;
+}
 
 -- the same as a child
 abbrev pub asked_child : TvAsked → Child
@@ -239,6 +235,17 @@ pub record ByRelay (asked : RelayAsked) (outside : OutsideUse) (result : Status)
       (λ run. IsMadeAsDue (IsProperRelay run) (relay.due run) outside.told_old outside.told_new result)
 
 -- ---- `watch`
+-- the watch is what the options ask for
+pub record IsAskedWatch (asked : WatchAsked) (config : WatchConfig) : Type 0 where
+  pub selector : config.companion.selector ≡ asked.selector
+  pub stem : config.companion.stem ≡ asked.stem
+  pub local_error : config.companion.local.error ≡ asked.local_error
+  pub local_precision : config.companion.local.precision ≡ asked.local_precision
+  pub dials : config.cii ≡ asked.cii
+  pub seconds : config.seconds ≡ asked.seconds
+  pub report_every : config.report_every ≡ asked.report_every
+  pub ask_every : config.ask_every ≡ asked.ask_every
+
 -- The calls are those of visits, one after another, and the sink gained the lines of what happened in each of them.
 pub record ByWatch (asked : WatchAsked) (sink : SinkUse) (outside : OutsideUse) (result : Status) : Type 0 where
   pub ran : OfAsked (MakesNone sink outside result) (IsAskedWatch asked)
@@ -282,13 +289,3 @@ Does (Ok (Generate asked)) used result = ByGenerate asked used.sink result
 Does (Ok (Survey asked)) used result = BySurvey asked used.sink result
 Does (Err words.Usage) used result = IsUsageUnlessMemory result
 Does (Err words.Memory) used result = (used ≡ unused used) × (result ≡ status.Memory)
-
--- what is asked for where the words were read so
-abbrev pub asked_in : Result Command WordsFault → Result Asked WordsFault
-asked_in (Ok command) = Ok (asked_of command)
-asked_in (Err fault) = Err fault
-
--- only words that are those of no command are told as such
-abbrev pub TellsUsage : Result Asked WordsFault → Status → Type 0
-TellsUsage (Err words.Usage) result = Unit {0}
-TellsUsage _ result = IsNoUsage result

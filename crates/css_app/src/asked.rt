@@ -11,10 +11,9 @@ ghost use Rattle.css_words.specs.Relay.{relay_of};
 ghost use Rattle.css_words.specs.Tv.{tv_of};
 ghost use Rattle.css_words.specs.Watch.{watch_of};
 ghost use Rattle.css_words.specs.Written.{AreWritable};
-ghost use Rattle.css_app.specs.Commands.{IsAskedRelay, IsAskedRun, asked_child, asked_drive};
+ghost use Rattle.css_app.specs.Commands.{IsAskedRelay, IsAskedRun, IsAskedWatch, asked_child, asked_drive};
 ghost use Rattle.css_app.specs.Ended.{CanBeDrawn};
-ghost use Rattle.css_app.specs.Pairs as pairs;
-ghost use Rattle.css_app.specs.Watches.{IsAskedWatch};
+ghost use Rattle.css_app.specs.Live as pairs;
 
 use crate::live_pair::{Child, address_at};
 use css_client::Local;

@@ -4,9 +4,8 @@ ghost use Rattle.css_lines.specs.declared.reader.LineFault.TheVariants as lacks;
 ghost use Rattle.css_follow.specs.Sheets.{sheet_in};
 ghost use Rattle.css_schedule.specs.Ranges.{IsScriptLine};
 ghost use Rattle.css_replay.specs.Ended.{stop_status};
-ghost use Rattle.css_app.specs.Live.{CountsTaking, Gives, HasNoScript, HasNoSheet};
-ghost use Rattle.css_app.specs.Pairs.{GivesScriptText, GivesUpTo};
-ghost use Rattle.css_app.specs.Scripts.{script_in};
+ghost use Rattle.css_app.specs.Ended.{script_in};
+ghost use Rattle.css_app.specs.Live.{CountsTaking, Gives, GivesScriptText, GivesUpTo, HasNoScript, HasNoSheet};
 
 use crate::lines::line_status;
 use css_follow::{Form, Sheet, SheetLines};
@@ -22,9 +21,7 @@ fn sheet_status(stop: Stop<Form>) -> Status
 {
     match stop {
         Stop::BadLine { line, .. } => Status::BadSheet { line },
-        Stop::ReadFault => Status::ReadFault,
-        Stop::WriteFault => Status::WriteFault,
-        Stop::Memory => Status::Memory,
+        _ => line_status(stop),
     }
 }
 
@@ -73,7 +70,7 @@ fn keep(lines: &mut Vec<ScriptLine>, line: ScriptLine) -> Result<(), LineFault<N
 }
 
 impl Lines for ScriptLines {
-    ghost use Rattle.css_app.specs.Scripts.{Stands, script_lines};
+    ghost use Rattle.css_app.specs.Ended.{Stands, script_lines};
 
     type Cause = NoLine;
 
@@ -108,7 +105,7 @@ impl Lines for ScriptLines {
 }
 
 /// Reads the script that the source has, to the source's end.
-#[tactic(auto, unfolding(crate::specs::Scripts::script_of_lines))]
+#[tactic(auto, unfolding(crate::specs::Ended::script_of_lines))]
 pub(crate) fn take_script<S: Source>(
     alloc: Global,
     source: &mut S,
@@ -163,10 +160,7 @@ pub(crate) fn take_script_text<S: Source>(alloc: Global, source: &mut S) -> Resu
         (HasNoScript (S.left source.old)) }
     ensures counted { CountsTaking (S.faults source.old) (S.faults source.new) result }
 {
-    let text = match take_bytes(alloc, source) {
-        Ok(text) => text,
-        Err(status) => return Err(status),
-    };
+    let text = take_bytes(alloc, source)?;
     let Ok(mut copy) = NeverFailsSource::new(alloc, &text, PIECE) else {
         return Err(Status::Memory);
     };

@@ -19,24 +19,17 @@ use std::alloc::Global;
 fn agree_status(stop: Stop<Cause>) -> Status
     ensures { result ≡ stop_status agree_refused stop }
 {
-    let (line, why) = match stop {
-        Stop::BadLine { line, why } => (line, why),
-        Stop::ReadFault => return Status::ReadFault,
-        Stop::WriteFault => return Status::WriteFault,
-        Stop::Memory => return Status::Memory,
-    };
-    let why = match why {
-        Refusal::Long => LineWhy::Long,
-        Refusal::Refused(Cause::Form) => LineWhy::Form,
-        Refusal::Refused(Cause::Broken { earlier, excess }) => {
-            return Status::Broken {
-                line,
-                earlier,
-                excess,
-            };
-        }
-    };
-    Status::BadLine { line, why }
+    match stop {
+        Stop::BadLine {
+            line,
+            why: Refusal::Refused(Cause::Broken { earlier, excess }),
+        } => Status::Broken {
+            line,
+            earlier,
+            excess,
+        },
+        _ => line_status(stop),
+    }
 }
 
 /// Reads answers from the source, line by line, and writes what they say together where a line asks for it.

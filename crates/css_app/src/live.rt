@@ -12,10 +12,9 @@ ghost use Rattle.css_watch.specs.Configs as watch;
 ghost use Rattle.css_replay.specs.Devices.{sink_use, source_use};
 ghost use Rattle.css_replay.specs.Ended.{HasNotFailed, IsNoUsage};
 ghost use Rattle.css_app.specs.Commands.{MakesRecord};
-ghost use Rattle.css_app.specs.Devices.{followers_use, outside_use};
-ghost use Rattle.css_app.specs.Live.{Companions, EndsAsDue, Serves, ServesAsDue, TellsFaults, driven_status};
-ghost use Rattle.css_app.specs.Scripts.{script_in};
-ghost use Rattle.css_app.specs.Watches.{EndsAtLastUnlessMemory, MakesWatch, watched_status};
+ghost use Rattle.css_app.specs.Ended.{script_in};
+ghost use Rattle.css_app.specs.Live.{Companions, EndsAsDue, EndsAtLastUnlessMemory, MakesWatch, Serves, ServesAsDue};
+ghost use Rattle.css_app.specs.Live.{TellsFaults, driven_status, followers_use, outside_use, watched_status};
 
 use crate::inputs::{take_script, take_sheet};
 use css_drive::{DriveConfig, Driven, Listens, TvDrive, drive_companion, drive_tv};

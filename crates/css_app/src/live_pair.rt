@@ -4,11 +4,9 @@ ghost use Rattle.css_drive.specs.Configs.{IsWritable};
 ghost use Rattle.css_schedule.specs.declared.line.ScriptLine.{ScriptLine};
 ghost use Rattle.css_replay.specs.Devices.{sink_use, source_use};
 ghost use Rattle.css_replay.specs.Ended.{HasNotFailed, IsNoUsage};
-ghost use Rattle.css_app.specs.Devices.{followers_use, outside_use, spawner_use};
-ghost use Rattle.css_app.specs.Live.{TellsFaults};
-ghost use Rattle.css_app.specs.Pairs.{Pairs, PairsAsDue};
-ghost use Rattle.css_app.specs.Pairs as pairs;
-ghost use Rattle.css_app.specs.Scripts.{script_in};
+ghost use Rattle.css_app.specs.Ended.{script_in};
+ghost use Rattle.css_app.specs.Live.{Pairs, PairsAsDue, TellsFaults, followers_use, outside_use, spawner_use};
+ghost use Rattle.css_app.specs.Live as pairs;
 
 use crate::inputs::take_script_text;
 use crate::live::status_of;

@@ -1,4 +1,4 @@
-ghost use Rattle.std.specs.Prelude.{◌≡◌, Ok, Err, IfOk, false, true};
+ghost use Rattle.std.specs.Prelude.{◌≡◌, Ok, Err, false, true};
 ghost use Rattle.css_words.specs.Commands as commands;
 ghost use Rattle.css_words.specs.Companion.{CompanionAsked};
 ghost use Rattle.css_words.specs.Generator.{GeneratorAsked};
@@ -8,15 +8,13 @@ ghost use Rattle.css_words.specs.Tv.{TvAsked};
 ghost use Rattle.css_words.specs.Watch.{WatchAsked};
 ghost use Rattle.css_words.specs.Written.{IsWritable};
 ghost use Rattle.css_words.specs.declared.fault.WordsFault.TheVariants as words_fault;
-ghost use Rattle.css_app.specs.Commands.{ByAgree, ByAudit, ByCompanion, ByGenerate, ByMigrate, ByPair, ByRecord};
-ghost use Rattle.css_app.specs.Commands.{ByRelay, BySurvey, ByTv, ByWatch, Does, IsUsageUnlessMemory, TellsUsage};
-ghost use Rattle.css_app.specs.Commands.{asked_by, asked_in, uses_followers, uses_outside, uses_sink, uses_source};
-ghost use Rattle.css_app.specs.Commands.{uses_spawner};
-ghost use Rattle.css_app.specs.Devices.{followers_use, outside_use, spawner_use, uses};
-ghost use Rattle.css_app.specs.Live.{TellsFaults};
 ghost use Rattle.css_replay.specs.Devices.{sink_use, source_use};
-ghost use Rattle.css_replay.specs.Does.{ByReplay};
-ghost use Rattle.css_replay.specs.Ended.{CountsCalls, CountsDials, CountsReads, CountsSpawns, CountsWrites};
+ghost use Rattle.css_replay.specs.Ended.{ByReplay, CountsCalls, CountsDials, CountsReads, CountsSpawns, CountsWrites};
+ghost use Rattle.css_replay.specs.Ended.{IsNoUsage};
+ghost use Rattle.css_app.specs.Commands.{ByAgree, ByAudit, ByCompanion, ByGenerate, ByMigrate, ByPair, ByRecord};
+ghost use Rattle.css_app.specs.Commands.{ByRelay, BySurvey, ByTv, ByWatch, Does, IsUsageUnlessMemory, asked_by};
+ghost use Rattle.css_app.specs.Commands.{uses_followers, uses_outside, uses_sink, uses_source, uses_spawner};
+ghost use Rattle.css_app.specs.Live.{TellsFaults, followers_use, outside_use, spawner_use, uses};
 
 use crate::asked::{companions_in, pair_run_of, relay_run_of, run_of, tv_run_of, watch_run_of};
 use crate::lines::{agree, audit, migrate};
@@ -31,36 +29,36 @@ use css_replay::{Status, replay};
 use css_words::{Command, WordsFault, command_of};
 use std::alloc::Global;
 
-// Runs a command, or tells why there is none.
+// Runs a command.
 fn run_command<S: Source, K: Sink, O: Outside, P: Spawner, F: Listens>(
     alloc: Global,
-    command: Result<Command, WordsFault>,
+    command: Command,
     source: &mut S,
     sink: &mut K,
     outside: &mut O,
     spawner: &mut P,
     followers: &mut F,
 ) -> Status
-    requires { IfOk command IsWritable }
-    ensures does { Does (asked_in command) (uses (source_use S.left S.faults source.old source.new)
+    requires { IsWritable command }
+    ensures does { Does (Ok (commands.asked_of command)) (uses (source_use S.left S.faults source.old source.new)
         (sink_use K.holds K.faults sink.old sink.new) (outside_use O.told O.counts outside.old outside.new)
         (spawner_use P.told P.running P.faults spawner.old spawner.new)
         (followers_use F.takes F.heard followers.old followers.new)) result }
-    ensures usage { TellsUsage (asked_in command) result }
-    ensures same_source { uses_source (asked_in command) ≡ false → source.new ≡ source.old }
-    ensures same_sink { uses_sink (asked_in command) ≡ false → sink.new ≡ sink.old }
-    ensures same_outside { uses_outside (asked_in command) ≡ false → outside.new ≡ outside.old }
-    ensures same_spawner { uses_spawner (asked_in command) ≡ false → spawner.new ≡ spawner.old }
-    ensures same_followers { uses_followers (asked_in command) ≡ false → followers.new ≡ followers.old }
+    ensures no_usage { IsNoUsage result }
+    ensures same_source { uses_source (Ok (commands.asked_of command)) ≡ false → source.new ≡ source.old }
+    ensures same_sink { uses_sink (Ok (commands.asked_of command)) ≡ false → sink.new ≡ sink.old }
+    ensures same_outside { uses_outside (Ok (commands.asked_of command)) ≡ false → outside.new ≡ outside.old }
+    ensures same_spawner { uses_spawner (Ok (commands.asked_of command)) ≡ false → spawner.new ≡ spawner.old }
+    ensures same_followers { uses_followers (Ok (commands.asked_of command)) ≡ false → followers.new ≡ followers.old }
     ensures counted { TellsFaults (S.faults source.old) (S.faults source.new) (K.faults sink.old) (K.faults sink.new)
         (O.counts outside.old) (O.counts outside.new) (P.faults spawner.old) (P.faults spawner.new) result }
 {
     match command {
-        Ok(Command::Replay) => replay(alloc, source, sink),
-        Ok(Command::Agree) => agree(alloc, source, sink),
-        Ok(Command::Audit) => audit(alloc, source, sink),
-        Ok(Command::Migrate) => migrate(alloc, source, sink),
-        Ok(Command::Companion(words)) => {
+        Command::Replay => replay(alloc, source, sink),
+        Command::Agree => agree(alloc, source, sink),
+        Command::Audit => audit(alloc, source, sink),
+        Command::Migrate => migrate(alloc, source, sink),
+        Command::Companion(words) => {
             let run = run_of(words.options, words.cii);
             if words.recorded {
                 record_companion(alloc, run, sink, outside)
@@ -68,23 +66,51 @@ fn run_command<S: Source, K: Sink, O: Outside, P: Spawner, F: Listens>(
                 companion(alloc, run, source, sink, outside, followers)
             }
         }
-        Ok(Command::Tv(words)) => tv(alloc, tv_run_of(words), source, outside),
-        Ok(Command::Pair(words)) => match pair_run_of(alloc, words) {
+        Command::Tv(words) => tv(alloc, tv_run_of(words), source, outside),
+        Command::Pair(words) => match pair_run_of(alloc, words) {
             Ok((run, child)) => pair(
                 alloc, run, &child, source, sink, outside, spawner, followers,
             ),
             Err(Memory) => Status::Memory,
         },
-        Ok(Command::Relay(words)) => {
+        Command::Relay(words) => {
             status_of(drive_relay(alloc, relay_run_of(alloc, words), outside))
         }
-        Ok(Command::Watch(words)) => { watch_television(alloc, watch_run_of(words), sink, outside) }
-        Ok(Command::Generate(words)) => {
+        Command::Watch(words) => { watch_television(alloc, watch_run_of(words), sink, outside) }
+        Command::Generate(words) => {
             generate(alloc, words.seed, words.lines, companions_in(words), sink)
         }
-        Ok(Command::Survey(words)) => {
+        Command::Survey(words) => {
             survey(alloc, words.seed, words.lines, companions_in(words), sink)
         }
+    }
+}
+
+// Runs the command that the words ask for.
+fn run_asked<S: Source, K: Sink, O: Outside, P: Spawner, F: Listens>(
+    alloc: Global,
+    words: &[String],
+    source: &mut S,
+    sink: &mut K,
+    outside: &mut O,
+    spawner: &mut P,
+    followers: &mut F,
+) -> Status
+    ensures usage { result ≡ Status.Usage → asked_by words.now ≡ Err words_fault.Usage }
+    ensures does { Does (asked_by words.now) (uses (source_use S.left S.faults source.old source.new)
+        (sink_use K.holds K.faults sink.old sink.new) (outside_use O.told O.counts outside.old outside.new)
+        (spawner_use P.told P.running P.faults spawner.old spawner.new)
+        (followers_use F.takes F.heard followers.old followers.new)) result }
+    ensures same_source { uses_source (asked_by words.now) ≡ false → source.new ≡ source.old }
+    ensures same_sink { uses_sink (asked_by words.now) ≡ false → sink.new ≡ sink.old }
+    ensures same_outside { uses_outside (asked_by words.now) ≡ false → outside.new ≡ outside.old }
+    ensures same_spawner { uses_spawner (asked_by words.now) ≡ false → spawner.new ≡ spawner.old }
+    ensures same_followers { uses_followers (asked_by words.now) ≡ false → followers.new ≡ followers.old }
+    ensures counted { TellsFaults (S.faults source.old) (S.faults source.new) (K.faults sink.old) (K.faults sink.new)
+        (O.counts outside.old) (O.counts outside.new) (P.faults spawner.old) (P.faults spawner.new) result }
+{
+    match command_of(alloc, words) {
+        Ok(command) => run_command(alloc, command, source, sink, outside, spawner, followers),
         Err(WordsFault::Usage) => Status::Usage,
         Err(WordsFault::Memory) => Status::Memory,
     }
@@ -202,6 +228,5 @@ pub fn run<S: Source, K: Sink, O: Outside, P: Spawner, F: Listens>(
         (O.counts outside.new).dial_faults result }
     ensures counted_spawns { CountsSpawns (P.faults spawner.old) (P.faults spawner.new) result }
 {
-    let command = command_of(alloc, words);
-    run_command(alloc, command, source, sink, outside, spawner, followers)
+    run_asked(alloc, words, source, sink, outside, spawner, followers)
 }

@@ -21,7 +21,9 @@ use Rattle.css_follow.specs.Following.{Seen, told, told_unless, after, ends_by}
 use Rattle.css_drive.specs.CompanionDue as dues
 use Rattle.css_drive.specs.CompanionDue.{Point, due, due_at, dial_to, dial_first, take_text, hang_up, sending, send_to}
 use Rattle.css_drive.specs.CompanionDue.{is_short, refusal, unless_refused, point_of, end_by, IsProperRun}
-use Rattle.css_drive.specs.CompanionLaws.{ReportsAreAsAsked, FollowersHear, HasHeard, EachHasHeard}
+use Rattle.css_drive.specs.CompanionLaws.{ReportsAreAsAsked, FollowersHear, HasHeard, EachHasHeard, Happening, Sleep}
+use Rattle.css_drive.specs.CompanionLaws.{Asks, Lands, TellsCii, TellsTs, BeginsTs, EndsTs, landing, text_of, end_of}
+use Rattle.css_drive.specs.CompanionLaws.{with_happening, happenings, SameEventsAreReportedAlike}
 use Rattle.css_drive.specs.CompanionReports.{due_reports}
 use Rattle.css_drive.specs.CompanionRun.{after_all}
 use Rattle.css_follow.specs.Listening.{Listener, hearing, words_of}
@@ -44,8 +46,6 @@ use Rattle.css_companion.specs.Meanings.{is_closed}
 use Rattle.css_companion.specs.Printed.{line_of}
 use Rattle.css_companion.specs.Reports.{timing_of, report_by, assigned_by}
 use Rattle.css_companion.specs.TimelineRates.{rate_of}
-use Rattle.css_drive.specs.SameEvents.{Happening, Sleep, Asks, Lands, TellsCii, TellsTs, BeginsTs, EndsTs, landing}
-use Rattle.css_drive.specs.SameEvents.{text_of, end_of, with_happening, happenings, SameEventsAreReportedAlike}
 
 -- ---- followers
 -- one more report

@@ -1,30 +1,54 @@
 -- How a run's history goes on by a call.
 use Rattle.std.proofs.Common.{◌≡◌, ℕ, ◌≤◌, ◌<◌, arith, ap, sym, ◌∙◌, subst, refl, Bool, true, false, cond, List, []}
 use Rattle.std.proofs.Common.{◌∷◌, ◌++◌, append_assoc, Option, Some, None, eq-eqb, inl, inr, Result, Ok, Err}
-use Rattle.std.specs.Prelude.{is_some, IfSome, MatchResult, IsErrAnd}
+use Rattle.std.specs.Prelude.{is_some, IfSome, MatchResult, IsErrAnd, ◌&&◌, ◌||◌, OnOk, IfErr, ◌<◌}
 use Rattle.std.specs.Option.{option_or}
-use Rattle.std.proofs.lemmas.Bool.{ne_eqb}
+use Rattle.std.proofs.lemmas.Bool.{ne_eqb, or_from}
 use Rattle.css_model.specs.declared.Kind.{Kind}
 use Rattle.css_model.specs.declared.Kind.TheVariants as kind
-use Rattle.css_model.specs.Explains.{IsLawful}
-use Rattle.css_model.specs.History.{Address, Dialling, Dialled, History}
-use Rattle.css_outside.specs.Outsides.{with_entries}
+use Rattle.css_model.specs.Explains.{IsLawful, IsJustAsked}
+use Rattle.css_model.specs.History.{Address, Dialling, Dialled, History, Entry, NotDialled, Took, Heard, is_sleep}
+use Rattle.css_model.specs.History.{asking_at, request_by, landed_answer, sleeps, Each}
+use Rattle.css_outside.specs.Outsides.{with_entries, Counts, clock_entries, sleep_entries, heard_entries, wrote_entries}
 use Rattle.css_outside.specs.declared.fault.OutFault.{OutFault}
 use Rattle.css_outside.specs.declared.fault.OutFault.TheVariants as fault
-use Rattle.css_companion.specs.Meanings.{kind_of}
+use Rattle.css_companion.specs.Meanings.{kind_of, is_ts, is_cii, state_of, cii_text, ts_text, opens_ts, closes_ts}
 use Rattle.css_companion.specs.Standing.{Companion}
-use Rattle.css_drive.specs.CompanionDue.{due}
-use Rattle.css_drive.specs.CompanionStanding.{Shown, facts_of, facts_in, KnowsPeers, Stands, Knows, Comes, Stops}
-use Rattle.css_drive.specs.CompanionStanding.{IsFault, IsEndBy, IsSo, Fails, Adds, HasDialled, dial_entries}
+use Rattle.css_drive.specs.CompanionDue.{due, dial_to, place, from_cii, from_wc, from_ts, from_ask, from_take}
+use Rattle.css_drive.specs.CompanionDue.{from_ts_text, from_end, unless_refused, refusal_of, end_by}
+use Rattle.css_drive.specs.CompanionStanding.{Shown, facts_of, KnowsPeers, Stands, Knows, Comes, Stops, IsFault}
+use Rattle.css_drive.specs.CompanionStanding.{IsEndBy, IsSo, Fails, Adds, HasDialled, dial_entries, GivesPlace}
+use Rattle.css_drive.specs.CompanionStanding.{asked_after, IsRefusal, HasRead, Goes, IsDue, TakesIn, from_text}
+use Rattle.css_drive.specs.CompanionStanding.{after_text, kind_for, open_of}
 use Rattle.css_drive.specs.CompanionTurns.{dialled, dialled_by, opened, ended_by, open_after, unless, newest, is_peer}
-use Rattle.css_drive.specs.CompanionTurns.{is_kind}
+use Rattle.css_drive.specs.CompanionTurns.{is_kind, asked_turn, is_asking}
 use Rattle.css_drive.specs.Ends.{MayEnd, IsNetFault, CountsNetFault}
-use Rattle.css_drive.specs.Notes.{Note, noted, dial_notes, standpoint}
-use Rattle.css_drive.specs.Proper.{Due, Dial, MayAdd, More}
+use Rattle.css_drive.specs.Notes.{Note, noted, dial_notes, standpoint, session_at, slept_notes, landing_notes}
+use Rattle.css_drive.specs.Notes.{heard_notes, wrote_notes}
+use Rattle.css_drive.specs.Proper.{Due, Dial, MayAdd, More, Now, TakeDatagram, TakeText, SendText, Ends}
 use Rattle.css_drive.specs.declared.companion_live.Live.{Live}
 use Rattle.css_drive.specs.declared.config.DriveConfig.{DriveConfig}
 use Rattle.css_drive.specs.declared.driven.Driven.{Driven}
 use Rattle.css_drive.specs.declared.driven.Driven.TheVariants as driven
+use Rattle.css_model.specs.declared.Why.{Why}
+use Rattle.css_model.specs.declared.Why.TheVariants as why
+use Rattle.css_address.specs.declared.fault.AddressFault.{AddressFault}
+use Rattle.css_cii.specs.declared.name.CiiName.{CiiName}
+use Rattle.css_cii.specs.declared.name.CiiName.TheVariants.{WcUrl, TsUrl}
+use Rattle.css_cii.specs.declared.state.State.{State}
+use Rattle.css_outside.specs.declared.calls.Heard.{Heard as Answer}
+use Rattle.css_outside.specs.declared.calls.Heard.TheVariants as answer
+use Rattle.css_outside.specs.declared.calls.Clocked.{Clocked}
+use Rattle.css_outside.specs.declared.calls.Wrote.{Wrote as Outcome}
+use Rattle.css_outside.specs.declared.calls.Wrote.TheVariants as outcome
+use Rattle.css_companion.specs.Contents.{told}
+use Rattle.css_companion.specs.Aside.{IsAside}
+use Rattle.css_companion.proofs.Telling as telling
+use Rattle.css_model.specs.declared.Stamp.{Stamp}
+use Rattle.css_companion.specs.declared.fault.CompanionFault.{CompanionFault}
+use Rattle.css_companion.specs.declared.fault.CompanionFault.TheVariants as refused
+use Rattle.css_drive.specs.declared.session.Session.{Session}
+use Rattle.css_drive.specs.declared.session.Session.TheVariants as session
 
 -- ---- options
 pub none_if : (o : Option ℕ) → is_some o ≡ false → o ≡ None
@@ -32,27 +56,15 @@ none_if None e = refl
 none_if (Some x) e = absurd (cc)
 
 -- ---- what is told
-join : (before : Option History) (call history : History)
-    → with_entries call (with_entries history before) ≡ with_entries (call ++ history) before
-join None call history = refl
-join (Some h) call history = ap Some (sym (append_assoc call history h))
-
 pub told_more : (before old new : Option History) (call history : History) → old ≡ with_entries history before
     → new ≡ with_entries call old → new ≡ with_entries (call ++ history) before
-told_more before old new call history e f = f ∙ ap (λ o. with_entries call o) e ∙ join before call history
+told_more None old new call history e f = f ∙ ap (λ o. with_entries call o) e
+told_more (Some h) old new call history e f =
+    f ∙ ap (λ o. with_entries call o) e ∙ ap Some (sym (append_assoc call history h))
 
 -- ---- peers
 pub peers_later : (n m : ℕ) (history : History) → n ≤ m → KnowsPeers n history → KnowsPeers m history
 peers_later n m history le k = λ wanted peer e. (omega (arith, le, (k wanted peer e).0), (k wanted peer e).1)
-
-pub other_kind : (n p q : ℕ) (k : Kind) (to : Address) (history : History) → p ≤ n → n < q
-    → kind_of p (Dialled k q ∷ Dialling k to ∷ history) ≡ kind_of p history
-other_kind n p q k to history le lt =
-    ap (λ b. option_or (cond b (Some k) None) (kind_of p history)) (ne_eqb q p (λ e. omega (arith, le, lt, e)))
-
-pub own_kind : (q : ℕ) (k : Kind) (to : Address) (history : History)
-    → kind_of q (Dialled k q ∷ Dialling k to ∷ history) ≡ Some k
-own_kind q k to history = ap (λ b. option_or (cond b (Some k) None) (kind_of q history)) (eq-eqb q q refl)
 
 same_kind : (wanted k : Kind) → is_kind wanted k ≡ true → k ≡ wanted
 same_kind kind.Wc kind.Wc e = refl
@@ -68,17 +80,17 @@ peers_dialled n q k to history known lt wanted peer e = by (is_kind wanted k) re
         → (peer ≤ q) × (kind_of peer (Dialled k q ∷ Dialling k to ∷ history) ≡ Some wanted)
     by true is e =
         let same : q ≡ peer = cc in
-        let P : ℕ → Type 0 = λ x. kind_of x (Dialled k q ∷ Dialling k to ∷ history) ≡ Some wanted in
-        (omega (arith, same), subst P same (own_kind q k to history ∙ ap Some (same_kind wanted k is)))
+        let P : ℕ → Type 0 = λ x. kind_of x (Dialled k q ∷ Dialling k to ∷ history) ≡ Some wanted in (
+          omega (arith, same),
+          subst P same (ap (λ b. option_or (cond b (Some k) None) (kind_of q history))
+              (eq-eqb q q refl) ∙ ap Some (same_kind wanted k is)),
+        )
     by false is e =
-        let was = known wanted peer e in
-        (omega (arith, was.0, lt), other_kind n peer q k to history was.0 lt ∙ was.1)
-
-peers_tried : (n m : ℕ) (k : Kind) (to : Address) (tried : Option ℕ) (history : History) → KnowsPeers n history
-    → n ≤ m → IfSome tried (λ peer. (n < peer) × (peer ≤ m)) → KnowsPeers m (dial_entries k to tried ++ history)
-peers_tried n m k to None history known le t = peers_later n m history le known
-peers_tried n m k to (Some q) history known le t =
-    peers_later q m (Dialled k q ∷ Dialling k to ∷ history) t.1 (peers_dialled n q k to history known t.0)
+        let was = known wanted peer e in (
+          omega (arith, was.0, lt),
+          ap (λ b. option_or (cond b (Some k) None) (kind_of peer history))
+              (ne_eqb q peer (λ e. omega (arith, was.0, lt, e))) ∙ was.1,
+        )
 
 -- a session that is opens was dialled
 pub opened_dialled : (wanted : Kind) (history : History) (p : ℕ) → opened wanted history ≡ Some p
@@ -97,11 +109,6 @@ opened_dialled wanted (entry ∷ older) p e =
     by (Some x) ended was first older e = e
     by None None was first older e = older p e
     by None (Some q) was first older e = older p (below (is_peer was q) was e)
-
--- ---- what the companion knows
-pub knows_as : (config : DriveConfig) (was is : Companion) (history : History) → is ≡ was → Knows config was history
-    → Knows config is history
-knows_as config was is history e k = subst (λ (x : Companion). Knows config x history) (sym e) k
 
 -- ---- counts
 -- nothing is counted at an end that is no fault of the outside
@@ -156,25 +163,15 @@ pub fails_over : {old new : Shown} {over : Option OutFault} {ended : Driven} →
 fails_over {old} {new} {over} {ended} e f = subst (λ (o : Option OutFault). Fails old new o ended) (sym e) f
 
 -- ---- steps
-dial_may : (k : Kind) (to : Address) (tried : Option ℕ) → MayAdd (Dial k to) (dial_entries k to tried)
-dial_may k to None = inr refl
-dial_may k to (Some p) = inl (p, refl)
-
-dial_noted : (config : DriveConfig) (k : Kind) (to : Address) (tried : Option ℕ) (history : History)
-    → noted config (dial_entries k to tried ++ history)
-    ≡ dial_notes (standpoint config (Dialling k to ∷ history)) k tried ++ noted config history
-dial_noted config k to None history = refl
-dial_noted config k to (Some p) history = refl
-
 module _ {config : DriveConfig} {before now : Shown} {saw : List Note → Type 0} {live : Live} {history : History}
     (s : Stands config before now saw live history) where
   -- a call that is due is added, and the observer saw its notes
   pub stands_saw : (d : Due) → due config history ≡ d → (call : History) → MayAdd d call → (next : Shown)
       → next.told ≡ with_entries call now.told → next.counts.faults ≡ now.counts.faults
       → KnowsPeers next.counts.peers (call ++ history) → (after : List Note → Type 0)
-      → after (noted config (call ++ history)) → (later : Live) → facts_of config (call ++ history) ≡ facts_in later
+      → after (noted config (call ++ history)) → {later : Live} → facts_of config (call ++ history) ≡ later
       → Stands config before next after later (call ++ history)
-  stands_saw d is-due call may next told faults peers after notes later facts =
+  stands_saw d is-due call may next told faults peers after notes facts =
       let P : Due → Type 0 = λ x. MayAdd x call in
       record {
         told = told_more before.told now.told next.told call history s.told told;
@@ -188,23 +185,26 @@ module _ {config : DriveConfig} {before now : Shown} {saw : List Note → Type 0
   -- one that opens no session
   pub stands_adds : (d : Due) → due config history ≡ d → (call : History) → MayAdd d call
       → KnowsPeers now.counts.peers (call ++ history) → {next : Shown} → Adds now next call
-      → {after : List Note → Type 0} → after (noted config (call ++ history)) → (later : Live)
-      → facts_of config (call ++ history) ≡ facts_in later → Stands config before next after later (call ++ history)
-  stands_adds d is-due call may peers {next} adds {after} notes later facts =
+      → {after : List Note → Type 0} → after (noted config (call ++ history)) → {later : Live}
+      → facts_of config (call ++ history) ≡ later → Stands config before next after later (call ++ history)
+  stands_adds d is-due call may peers {next} adds {after} notes facts =
       let same : next.counts.peers ≡ now.counts.peers = ap (λ x. x.peers) adds.same in
       stands_saw d is-due call may next adds.told (ap (λ x. x.faults) adds.same)
-      (peers_later _ _ (call ++ history) (omega (arith, same)) peers) after notes later facts
+      (peers_later _ _ (call ++ history) (omega (arith, same)) peers) after notes facts
 
   -- a dial
   pub stands_tried : (k : Kind) (to : Address) → due config history ≡ Dial k to → (tried : Option ℕ)
       → {next : Shown} → HasDialled now next k to tried → {after : List Note → Type 0}
       → after (dial_notes (standpoint config (Dialling k to ∷ history)) k tried ++ noted config history)
-      → (later : Live) → facts_of config (dial_entries k to tried ++ history) ≡ facts_in later
+      → {later : Live} → facts_of config (dial_entries k to tried ++ history) ≡ later
       → Stands config before next after later (dial_entries k to tried ++ history)
-  stands_tried k to d tried {next} t {after} notes later facts =
-      stands_saw (Dial k to) d (dial_entries k to tried) (dial_may k to tried) next t.told t.faults
-      (peers_tried _ _ k to tried history s.peers t.later t.peer) after
-      (subst after (sym (dial_noted config k to tried history)) notes) later facts
+  stands_tried k to d None {next} t {after} notes facts =
+      stands_saw (Dial k to) d (dial_entries k to None) (inr refl) next t.told t.faults
+      (peers_later now.counts.peers next.counts.peers history t.later s.peers) after notes facts
+  stands_tried k to d (Some q) {next} t {after} notes facts =
+      stands_saw (Dial k to) d (dial_entries k to (Some q)) (inl (q, refl)) next t.told t.faults
+      (peers_later q next.counts.peers (dial_entries k to (Some q) ++ history) t.peer.1
+      (peers_dialled now.counts.peers q k to history s.peers t.peer.0)) after notes facts
 
   -- the run came to this history
   pub comes : {companion : Companion} → Knows config companion history → (at : History → Type 0) → at history
@@ -284,3 +284,317 @@ leads_err P result is step = λ before started history s k w.
 
 pub ends_by : (d e : Due) (ended : Driven) → d ≡ e → MayEnd e ended → MayEnd d ended
 ends_by d e ended is m = let P : Due → Type 0 = λ x. MayEnd x ended in subst P (sym is) m
+
+-- the address of the wall clock that is told
+abbrev pub wc_place : State → Option (Result Address AddressFault)
+wc_place state = place kind.Wc state.wc_url
+
+-- ---- entries that tell a companion nothing
+pub lawful_plain : (entry : Entry) (history : History) → IsLawful history → asking_at entry ≡ None
+    → request_by entry ≡ None → IsLawful (entry ∷ history)
+lawful_plain entry history l asks sends =
+    record {
+      rises = (
+        subst (λ (o : Option ℕ). IfSome o (λ reading. Each (λ earlier older. IfSome (asking_at earlier) (λ
+            asked. sleeps older < sleeps history → asked < reading)) history)) (sym asks) tt,
+        l.rises,
+      );
+      asks = (
+        subst (λ (o : Option Stamp). IfSome o (λ originate. IsJustAsked originate history)) (sym sends) tt,
+        l.asks,
+      );
+    }
+
+-- an entry that tells a companion nothing
+pub knows_plain : {config : DriveConfig} {companion : Companion} (entry : Entry) {history : History}
+    → Knows config companion history → is_sleep entry ≡ false → asking_at entry ≡ None
+    → request_by entry ≡ None → landed_answer entry history ≡ None → cii_text entry history ≡ None
+    → ts_text entry history ≡ None → (opens_ts entry || closes_ts entry history) ≡ false
+    → Knows config companion (entry ∷ history)
+knows_plain entry {history} k awake asks sends lands cii ts end =
+    let aside : IsAside entry history = record {
+      client = record { awake = awake; asks_none = asks; sends_none = sends; lands_none = lands };
+      no_cii = cii;
+      no_ts = ts;
+      no_edge = end;
+    } in
+    record { stands = telling.stands_aside _ _ entry k.stands aside; setup = k.setup; own = k.own }
+
+-- nor does a dial that fails or begins, or a session that isn't one of CSS-TS
+pub knows_dialling : {config : DriveConfig} {companion : Companion} (k : Kind) (to : Address) {history : History}
+    → Knows config companion history → Knows config companion (Dialling k to ∷ history)
+knows_dialling k to knows = knows_plain (Dialling k to) knows refl refl refl refl refl refl refl
+
+pub knows_tried : {config : DriveConfig} {companion : Companion} (k : Kind) (to : Address) (tried : Option ℕ)
+    {history : History} → IfSome tried (λ p. opens_ts (Dialled k p) ≡ false) → Knows config companion history
+    → Knows config companion (dial_entries k to tried ++ history)
+knows_tried k to None other knows =
+    knows_plain (NotDialled k) (knows_dialling k to knows) refl refl refl refl refl refl refl
+knows_tried k to (Some p) other knows =
+    knows_plain (Dialled k p) (knows_dialling k to knows) refl refl refl refl refl refl (or_from _ _ other refl)
+
+-- ---- what is due
+module _ {config : DriveConfig} {before now : Shown} {saw : List Note → Type 0} {live : Live} {history : History}
+    (s : Stands config before now saw live history) where
+  -- ---- dials
+  pub cii_due : due config history ≡ from_cii config history → live.cii ≡ None
+      → due config history ≡ Dial kind.Cii config.cii
+  cii_due d none = d ∙ rw (ap {A = Live} (λ x. x.cii) s.facts ∙ none)
+
+  pub wc_due : due config history ≡ from_wc config history → live.wc ≡ None → (state : State)
+      → state ≡ state_of history → (p : Option (Result Address AddressFault)) → place kind.Wc state.wc_url ≡ p
+      → due config history ≡ dial_to None kind.Wc WcUrl p (from_ts config history)
+  wc_due d none state told p at =
+      d ∙ ap (λ x. dial_to x kind.Wc WcUrl (place kind.Wc (state_of history).wc_url) (from_ts config history))
+      (ap {A = Live} (λ x. x.wc) s.facts ∙ none)
+      ∙ ap (λ x. dial_to None kind.Wc WcUrl x (from_ts config history))
+      (ap (λ (x : State). place kind.Wc x.wc_url) (sym told) ∙ at)
+
+  pub ts_due : due config history ≡ from_ts config history → live.ts ≡ None → (state : State)
+      → state ≡ state_of history → (p : Option (Result Address AddressFault)) → place kind.Ts state.ts_url ≡ p
+      → due config history ≡ dial_to None kind.Ts TsUrl p (from_ask config history)
+  ts_due d none state told p at =
+      d ∙ ap (λ x. dial_to x kind.Ts TsUrl (place kind.Ts (state_of history).ts_url) (from_ask config history))
+      (ap {A = Live} (λ x. x.ts) s.facts ∙ none)
+      ∙ ap (λ x. dial_to None kind.Ts TsUrl x (from_ask config history))
+      (ap (λ (x : State). place kind.Ts x.ts_url) (sym told) ∙ at)
+
+  -- ---- requests and datagrams
+  pub ask_due : due config history ≡ from_ask config history → {p : ℕ} → live.wc ≡ Some p
+      → is_asking config.ask_every live.turn live.asked ≡ true → due config history ≡ Now why.Ask
+  ask_due d e is =
+      d ∙ ap {A = Live} (λ x. cond (is_some x.wc && is_asking config.ask_every x.turn x.asked) (Now why.Ask)
+      (from_take config history)) s.facts ∙ rw (e, is)
+
+  pub take_due : due config history ≡ from_take config history → {p : ℕ} → live.wc ≡ Some p
+      → due config history ≡ TakeDatagram
+  take_due d e = d ∙ rw (ap {A = Live} (λ x. x.wc) s.facts ∙ e)
+
+  -- ---- whose session it is
+  last : (which : Session) {p : ℕ} → open_of which live ≡ Some p → dialled (kind_for which) history ≡ Some p
+  last session.Cii {p} e = opened_dialled kind.Cii history p (ap {A = Live} (λ x. x.cii_open) s.facts ∙ e)
+  last session.Ts {p} e = opened_dialled kind.Ts history p (ap {A = Live} (λ x. x.ts_open) s.facts ∙ e)
+
+  pub open_kind : (which : Session) {p : ℕ} → open_of which live ≡ Some p → kind_of p history ≡ Some (kind_for which)
+  open_kind which {p} e = (s.peers (kind_for which) p (last which e)).1
+
+-- ---- readings
+-- a sleep that a reading told
+slept_facts : (config : DriveConfig) (history : History) (slept : Bool)
+    → facts_of config (sleep_entries slept ++ history)
+    ≡ record (facts_of config history) { asked = asked_after slept (asked_turn history) }
+slept_facts config history true = refl
+slept_facts config history false = refl
+
+slept_peers : (peers : ℕ) (history : History) (slept : Bool) → KnowsPeers peers history
+    → KnowsPeers peers (sleep_entries slept ++ history)
+slept_peers peers history true k = k
+slept_peers peers history false k = k
+
+pub slept_noted : (config : DriveConfig) (history : History) (slept : Bool)
+    → noted config (sleep_entries slept ++ history)
+    ≡ slept_notes (standpoint config history) slept ++ noted config history
+slept_noted config history true = refl
+slept_noted config history false = refl
+
+-- after a reading the run stands
+module _ {config : DriveConfig} {before now next : Shown} {saw : List Note → Type 0} {live later : Live}
+    {was is : Companion} {w : Why} {clocked : Clocked} {history : History}
+    (s : Stands config before now saw live history) (r : HasRead now next live later was is w clocked) where
+  pub read_facts : facts_of config (sleep_entries clocked.slept ++ history) ≡ later
+  read_facts =
+      slept_facts config history clocked.slept
+      ∙ ap {A = Live} (λ x. record x { asked = asked_after clocked.slept x.asked }) s.facts ∙ sym r.only
+
+  pub stands_read : due config history ≡ Now w → {after : List Note → Type 0}
+      → after (noted config (clock_entries w clocked ++ history)) → {last : Live}
+      → facts_of config (clock_entries w clocked ++ history) ≡ last
+      → Stands config before next after last (clock_entries w clocked ++ history)
+  stands_read d {after} notes facts =
+      stands_saw s (Now w) d (clock_entries w clocked) (clocked, refl) next r.told r.faults
+      (peers_later _ _ (clock_entries w clocked ++ history) (omega (arith, r.peers))
+      (slept_peers _ history clocked.slept s.peers)) after notes facts
+
+-- after one for a request, and after one for a landing
+pub stands_asked : {config : DriveConfig} {before now next : Shown} {saw after : List Note → Type 0} {live later : Live}
+    {was is : Companion} {history : History} → Stands config before now saw live history
+    → due config history ≡ Now why.Ask → (clocked : Clocked) → HasRead now next live later was is why.Ask clocked
+    → after (slept_notes (standpoint config history) clocked.slept ++ noted config history)
+    → Stands config before next after later (clock_entries why.Ask clocked ++ history)
+stands_asked {config} {after = after} {history = history} s d clocked r notes =
+    stands_read s r d (subst after (sym (slept_noted config history clocked.slept)) notes) (read_facts s r)
+
+landed_notes : (config : DriveConfig) (clocked : Clocked) (p : ℕ) (bytes : List ℕ) (history : History)
+    → noted config (clock_entries why.Land clocked ++ (Took p bytes ∷ history))
+    ≡ landing_notes (standpoint config (Took p bytes ∷ history)) clocked bytes ++ noted config history
+landed_notes config clocked p bytes history = by clocked.slept
+  where
+    by : (b : Bool) → noted config (clock_entries why.Land (record clocked { slept = b }) ++ (Took p bytes ∷ history))
+        ≡ landing_notes (standpoint config (Took p bytes ∷ history)) (record clocked { slept = b }) bytes
+        ++ noted config history
+    by true = refl
+    by false = refl
+
+pub stands_landed : {config : DriveConfig} {before now next : Shown} {saw after : List Note → Type 0}
+    {live later : Live} {was is : Companion} {history : History} {p : ℕ} {bytes : List ℕ}
+    → Stands config before now saw live (Took p bytes ∷ history) → (clocked : Clocked)
+    → HasRead now next live later was is why.Land clocked
+    → after (landing_notes (standpoint config (Took p bytes ∷ history)) clocked bytes ++ noted config history)
+    → Stands config before next after later (clock_entries why.Land clocked ++ (Took p bytes ∷ history))
+stands_landed {config} {after = after} {history = history} {p = p} {bytes = bytes} s clocked r notes =
+    stands_read s r refl (subst after (sym (landed_notes config clocked p bytes history)) notes) (read_facts s r)
+
+-- ---- sessions that end
+-- a session of another kind has another peer
+pub other_open : (history : History) (o : Option ℕ) (is other : Kind) (p : ℕ)
+    → ((q : ℕ) → o ≡ Some q → kind_of q history ≡ Some is) → kind_of p history ≡ Some other
+    → (Some is ≡ Some other → ⊥) → is_peer o p ≡ false
+other_open history None is other p opens k never = refl
+other_open history (Some q) is other p opens k never =
+    ne_eqb q p (λ e. never (sym (opens q refl) ∙ ap (λ x. kind_of x history) e ∙ k))
+
+module _ {config : DriveConfig} {before now : Shown} {saw : List Note → Type 0} {live : Live} {history : History}
+    (s : Stands config before now saw live history) where
+  -- ---- which session it is
+  session_is : (which : Session) {p : ℕ} → open_of which live ≡ Some p → session_at p history ≡ Some which
+  session_is session.Cii {p} e = rw (last s session.Cii e, eq-eqb p p refl)
+  session_is session.Ts {p} e =
+      let other = other_open history (dialled kind.Cii history) kind.Cii kind.Ts p (λ q x. (s.peers kind.Cii q x).1)
+      (open_kind s session.Ts e) (λ x. cc) in rw (other, last s session.Ts e, eq-eqb p p refl)
+
+  -- ---- what it is to be asked
+  text_due : (which : Session) → due config history ≡ from_text which config history → {p : ℕ}
+      → open_of which live ≡ Some p → due config history ≡ TakeText p
+  text_due session.Cii d at = d ∙ rw (ap {A = Live} (λ x. x.cii_open) s.facts ∙ at)
+  text_due session.Ts d at = d ∙ rw (ap {A = Live} (λ x. x.ts_open) s.facts ∙ at)
+
+-- ---- notes
+pub heard_noted : (config : DriveConfig) (p : ℕ) (answer : Answer) (which : Session) (history : History)
+    → session_at p history ≡ Some which
+    → noted config (heard_entries p answer ++ history)
+    ≡ heard_notes which (standpoint config history) answer ++ noted config history
+heard_noted config p answer.Quiet which history e = refl
+heard_noted config p (answer.Text text) which history e = rw e
+heard_noted config p answer.Closed which history e = rw e
+
+pub wrote_noted : (config : DriveConfig) (p : ℕ) (text : List ℕ) (wrote : Outcome) (history : History)
+    → session_at p history ≡ Some session.Ts
+    → noted config (wrote_entries p text wrote ++ history)
+    ≡ wrote_notes (standpoint config history) wrote ++ noted config history
+wrote_noted config p text outcome.Sent history e = refl
+wrote_noted config p text outcome.Gone history e = rw e
+
+-- ---- texts
+-- what is due after a session was asked for a text
+pub asked : (which : Session) (config : DriveConfig) (entry : Entry) (p : ℕ) (history : History)
+    → kind_of p history ≡ Some (kind_for which)
+    → due config (entry ∷ history)
+    ≡ cond (is_ts (kind_of p history)) (from_end config (entry ∷ history)) (from_ts_text config (entry ∷ history))
+    → due config (entry ∷ history) ≡ after_text which config (entry ∷ history)
+asked session.Cii config entry p history is e = e ∙ rw is
+asked session.Ts config entry p history is e = e ∙ rw is
+
+-- and where it gave one
+heard : (which : Session) (config : DriveConfig) (p : ℕ) (bytes : List ℕ) (history : History)
+    → kind_of p history ≡ Some (kind_for which)
+    → due config (Heard p bytes ∷ history)
+    ≡ unless_refused (refusal_of (cond (is_cii (Some (kind_for which))) (Some bytes) None) history)
+    (after_text which config (Heard p bytes ∷ history))
+heard session.Cii config p bytes history is = rw is
+heard session.Ts config p bytes history is = rw is
+
+-- a refused text ends the run so
+pub refusal_ends : (refusal : Option CompanionFault) (rest : Due) (ended : Driven) → IsRefusal refusal ended
+    → MayEnd (unless_refused refusal rest) ended
+refusal_ends refusal rest driven.Memory r = tt
+refusal_ends None rest _ r = absurd r
+refusal_ends (Some f) rest _ r = subst (MayEnd (Ends (end_by f))) (sym r) (ends f)
+  where
+    ends : (f : CompanionFault) → MayEnd (Ends (end_by f)) (end_by f)
+    ends (refused.BadCii number reason) = refl
+    ends (refused.Moved property old new) = refl
+    ends refused.Memory = tt
+
+pub refusal_own : (refusal : Option CompanionFault) (ended : Driven) → IsRefusal refusal ended → IsOwn ended
+refusal_own refusal driven.Memory r = tt
+refusal_own None _ r = absurd r
+refusal_own (Some f) _ r = subst IsOwn (sym r) (own f)
+  where
+    own : (f : CompanionFault) → IsOwn (end_by f)
+    own (refused.BadCii number reason) = tt
+    own (refused.Moved property old new) = tt
+    own refused.Memory = tt
+
+-- a text was taken in, or is refused and ends the run
+pub text_goes : {T : Type 0} {config : DriveConfig} {before now : Shown} {saw : List Note → Type 0} {live : Live}
+    {p : ℕ} {bytes : List ℕ} {history : History} → Stands config before now saw live (Heard p bytes ∷ history)
+    → IsLawful history → (which : Session) → kind_of p history ≡ Some (kind_for which) → (over : Option OutFault)
+    → (is : Companion) (result : Result T Driven) → TakesIn config which p bytes history is result
+    → Goes config before now saw over live is (λ _. IsDue config (after_text which)) result
+text_goes {config} {p = p} {bytes = bytes} {history = history} s lawful which k over is (Ok _) taken =
+    comes s taken.1 _ (heard which config p bytes history k
+    ∙ ap (λ x. unless_refused x (after_text which config (Heard p bytes ∷ history))) taken.0)
+text_goes {config} {p = p} {bytes = bytes} {history = history} s lawful which k over is (Err ended) refused =
+    stops_here s (lawful_plain (Heard p bytes) history lawful refl refl) over ended (refusal_own _ ended refused)
+    (ends_by _ _ ended (heard which config p bytes history k) (refusal_ends _ _ ended refused))
+
+-- ---- counts
+-- a call that went well and is no dial
+pub plain_adds : {old new : Shown} {call : History} → new.told ≡ with_entries call old.told
+    → new.counts ≡ record old.counts { faults = new.counts.faults } → new.counts.faults ≡ old.counts.faults
+    → Adds old new call
+plain_adds {old} told same faults =
+    record { told = told; same = same ∙ ap {A = ℕ} {B = Counts} (λ n. record old.counts { faults = n }) faults }
+
+-- ---- a session is asked for a text, or sent one
+module _ {config : DriveConfig} {before now : Shown} {saw : List Note → Type 0} {live : Live} {history : History}
+    (s : Stands config before now saw live history) where
+  pub session_said : (which : Session) → due config history ≡ from_text which config history → {p : ℕ}
+      → open_of which live ≡ Some p → (said : Answer) → {next : Shown} → Adds now next (heard_entries p said)
+      → {after : List Note → Type 0}
+      → after (heard_notes which (standpoint config history) said ++ noted config history) → {later : Live}
+      → facts_of config (heard_entries p said ++ history) ≡ later
+      → Stands config before next after later (heard_entries p said ++ history)
+  session_said which d {p} at said adds {after} notes facts =
+      stands_adds s (TakeText p) (text_due s which d at) (heard_entries p said) (said, refl) (peers said) adds
+      (subst after (sym (heard_noted config p said which history (session_is s which at))) notes) facts
+    where
+      peers : (a : Answer) → KnowsPeers now.counts.peers (heard_entries p a ++ history)
+      peers answer.Quiet = s.peers
+      peers (answer.Text text) = s.peers
+      peers answer.Closed = s.peers
+
+  pub ts_sent : {p : ℕ} → live.ts_open ≡ Some p → {text : List ℕ} → due config history ≡ SendText p text
+      → (sent : Outcome) → {next : Shown} → Adds now next (wrote_entries p text sent) → {after : List Note → Type 0}
+      → after (wrote_notes (standpoint config history) sent ++ noted config history) → {later : Live}
+      → facts_of config (wrote_entries p text sent ++ history) ≡ later
+      → Stands config before next after later (wrote_entries p text sent ++ history)
+  ts_sent {p} at {text} is-due sent adds {after} notes facts =
+      stands_adds s (SendText p text) is-due (wrote_entries p text sent) (sent, refl) (peers sent) adds
+      (subst after (sym (wrote_noted config p text sent history (session_is s session.Ts at))) notes) facts
+    where
+      peers : (o : Outcome) → KnowsPeers now.counts.peers (wrote_entries p text o ++ history)
+      peers outcome.Sent = s.peers
+      peers outcome.Gone = s.peers
+
+-- ---- the companion is told
+-- it was told of what is added, or memory ran out
+pub told_goes : {T : Type 0} {config : DriveConfig} {before now : Shown} {saw : List Note → Type 0} {live : Live}
+    {history : History} → Stands config before now saw live history → IsLawful history → (over : Option OutFault)
+    → (is : Companion) (at : T → History → Type 0) → ((value : T) → at value history) → (result : Result T Driven)
+    → OnOk result (Knows config is history) → IfErr result (λ ended. ended ≡ driven.Memory)
+    → Goes config before now saw over live is at result
+told_goes s lawful over is at next (Ok value) told memory = comes s told (at value) (next value)
+told_goes s lawful over is at next (Err ended) told memory = stops_by_memory s lawful over ended memory
+
+-- a bad address ends the run
+pub bad_stops : {config : DriveConfig} {before now : Shown} {saw : List Note → Type 0} {live : Live}
+    {history : History} → Stands config before now saw live history → IsLawful history → {over : Option OutFault}
+    → (property : CiiName) (told : Option (Result Address AddressFault)) (k : Kind) (rest : Due) (ended : Driven)
+    → GivesPlace property told (Err ended) → due config history ≡ dial_to None k property told rest
+    → Stops config before now saw over ended
+bad_stops s lawful property told k rest driven.Memory g d = stops_by_memory s lawful _ driven.Memory refl
+bad_stops {config} {before} {now} {saw} s lawful {over} property told k rest _ g d =
+    let P : Driven → Type 0 = λ x. Stops config before now saw over x in
+    subst P (sym g.1) (stops_here s lawful over (driven.BadUrl property) tt (d
+    ∙ ap (λ x. dial_to None k property x rest) g.2))

@@ -1,12 +1,5 @@
 pub mod CompanionSteps
-pub mod CompanionCalls
 pub mod CompanionEnds
-pub mod CompanionRuns
-pub mod Reports
 pub mod CompanionLaws
-pub mod TvPeers
 pub mod TvSteps
-pub mod TvLines
-pub mod TvOpens
 pub mod TvTold
-pub mod TvSessions

@@ -1,12 +1,10 @@
 -- How a television's run comes on by a call of the outside, by an event, by a line of the script, and from part to part
 -- of its loop.
 use Rattle.std.proofs.Common.{◌≡◌, ℕ, ◌+◌, ◌≤◌, ◌<◌, Bool, false, true, cond, List, [], ◌∷◌, ◌++◌, Option, Some, None}
-use Rattle.std.proofs.Common.{refl, sym, ap, subst, ◌∙◌, arith, append_assoc, drop, Result, Ok, Err, length}
-use Rattle.std.proofs.Common.{get_or, inl, inr, ◌⊎◌}
-use Rattle.std.specs.Prelude.{◌≢◌, ◌&&◌, ⊤, is_some, ◌↔◌, filter, IfSome}
+use Rattle.std.proofs.Common.{refl, sym, ap, subst, ◌∙◌, arith, drop, Result, Ok, Err, length, get_or, inl, inr, ◌⊎◌}
+use Rattle.std.proofs.Common.{◌-◌, MatchResult}
+use Rattle.std.specs.Prelude.{◌≢◌, ◌&&◌, ⊤, IfSome, nat_lt}
 use Rattle.std.specs.Option.{option_map, option_to_list}
-use Rattle.std.proofs.lemmas.List.Elements.{All-nil, All-push}
-use Rattle.std.specs.List.{remove}
 use Rattle.std.proofs.lemmas.Bool.Decides.{nat_tests}
 use Rattle.std.proofs.lemmas.Grind.{common_steps}
 use Rattle.css_model.specs.Wire.{encoded}
@@ -15,13 +13,14 @@ use Rattle.css_model.specs.declared.Why.{Why}
 use Rattle.css_model.specs.declared.Why.TheVariants as why
 use Rattle.css_model.specs.History.{History, Listening, Accepted, Clock}
 use Rattle.css_num.specs.declared.protocol.Kind.{Kind}
-use Rattle.css_outside.specs.Faults.{CountsOutFault}
 use Rattle.css_outside.specs.declared.calls.Clocked.{Clocked}
-use Rattle.css_outside.specs.declared.fault.OutFault.{OutFault}
-use Rattle.css_outside.specs.Outsides.{Counts, CountsPlain, CountsOpening, with_entries, clock_entries}
+use Rattle.css_outside.specs.Outsides.{Counts, CountsOpening, with_entries, clock_entries, CountsPlain}
 use Rattle.css_server.specs.Tickets.{Ticket, response_to, follow_up_for}
-use Rattle.css_sessions.specs.Kept.{Kept, talk_of}
-use Rattle.css_sessions.specs.Told.{sessions_of, life_of}
+use Rattle.css_sessions.specs.Kept.{Kept, talk_of, next_open}
+use Rattle.css_sessions.specs.Told.{sessions_of, life_of, window_of}
+use Rattle.css_sessions.specs.declared.session.Session.{Session}
+use Rattle.css_sessions.proofs.InForce.{peers, peers_are}
+use Rattle.css_sessions.proofs.Telling.{kept, is_kept}
 use Rattle.css_player.specs.declared.command.PlayerFault.{PlayerFault}
 use Rattle.css_tv.specs.Serving.{server_of}
 use Rattle.css_tv.specs.Stages.{Stage, Television}
@@ -35,26 +34,26 @@ use Rattle.css_tv.specs.declared.state.Addresses.{Addresses}
 use Rattle.css_tv.specs.declared.fault.TvFault.TheVariants as fault
 use Rattle.css_schedule.specs.declared.line.ScriptLine.{ScriptLine}
 use Rattle.css_schedule.specs.declared.fault.LineWhy.TheVariants as line_why
-use Rattle.css_drive.specs.CompanionStanding.{Shown}
+use Rattle.css_drive.specs.CompanionStanding.{Shown, IsFault, Calls}
+use Rattle.css_drive.specs.CompanionStanding as shared
 use Rattle.css_drive.specs.Proper.{Due, Now, TakeDatagram, MayAdd, Empty, More, Ends}
 use Rattle.css_drive.specs.Ends.{MayEnd, CountsNetFault}
 use Rattle.css_drive.specs.TvProgress.{Place, Listens, Turned, Received, Answers, Served, Asked, Progress, settled}
 use Rattle.css_drive.specs.TvProgress.{settled_at, carry, with_line, is_free, is_due, addresses_in, progress_of, after}
-use Rattle.css_drive.specs.TvProgress.{beginning, happened, opened, outcome_after, outs_in, played}
-use Rattle.css_drive.specs.TvProgress.{played_if, event_of}
-use Rattle.css_drive.specs.TvTurns.{since, begun, goes_on, is_over, no_turns}
-use Rattle.css_drive.specs.TvDue.{TvRun, due, due_for, from_hang_ups, due_at}
-use Rattle.css_drive.specs.TvPeers.{Knows, Covers, has, above}
+use Rattle.css_drive.specs.TvProgress.{beginning, happened, outcome_after, outs_in, played, played_if, event_of, since}
+use Rattle.css_drive.specs.TvProgress.{begun, goes_on, is_over, no_turns, asked}
+use Rattle.css_drive.specs.TvDue.{TvRun, due, due_for, from_hang_ups, above}
 use Rattle.css_drive.specs.TvRan.{AreBelow, AreNumbered, MadeTurns}
-use Rattle.css_drive.specs.TvStanding.{From, Told, Stops, Fails, Adds, IsRead, Airs, IsAt, Settles, Happens, Comes}
-use Rattle.css_drive.specs.TvStanding.{Welcomes, IsTurned, IsUnused, started, progress_at, live_after, at_end, with_tv}
-use Rattle.css_drive.specs.TvStanding.{Carries, left_from, hanging_up, past_line, with_peers}
+use Rattle.css_drive.specs.TvStanding.{From, Told, Stops, Adds, IsRead, Airs, IsAt, Settles, Happens, Comes, IsTurned}
+use Rattle.css_drive.specs.TvStanding.{IsUnused, started, progress_at, live_after, at_end, with_tv, Carries, hanging_up}
+use Rattle.css_drive.specs.TvStanding.{past_line, still}
 use Rattle.css_drive.specs.declared.driven.Driven.{Driven}
 use Rattle.css_drive.specs.declared.driven.Driven.TheVariants as driven
-use Rattle.css_drive.specs.declared.on_air.OnAir.{OnAir}
+use Rattle.css_drive.specs.declared.turns.OnAir.{OnAir}
 use Rattle.css_drive.specs.declared.turns.Turns.{Turns}
-use Rattle.css_drive.proofs.TvPeers as lists
-use Rattle.css_drive.proofs.TvTold.{IsNoOpening, is_fresh, opens_none, event_narrows, event_covers, has_talk, all_good}
+use Rattle.css_drive.proofs.CompanionSteps as companion
+use Rattle.css_drive.proofs.CompanionEnds.{no_entries}
+use Rattle.css_drive.proofs.TvTold.{IsNoOpening, is_fresh, opens_none, all_good}
 
 -- ---- lines that wait
 pub carry_stops : (a : Addresses) (s r : ℕ) (lines : List ScriptLine) (p : Progress) → is_free p ≡ false
@@ -97,11 +96,6 @@ progress_more : (run : TvRun) (call h : History)
 progress_more run [] h = refl
 progress_more run (entry ∷ call) h = ap (after (addresses_in run.config) entry) (progress_more run call h)
 
-told_on : (call h : History) (start : Option History)
-    → with_entries call (with_entries h start) ≡ with_entries (call ++ h) start
-told_on call h None = refl
-told_on call h (Some s) = ap Some (sym (append_assoc call h s))
-
 pub told_as : {from : From} {now : Shown} {p : Progress} {h : History} (q : Progress) → Told from now p h → p ≡ q
     → Told from now q h
 told_as {from} {now} {h = h} q t e = subst (λ (x : Progress). Told from now x h) e t
@@ -113,7 +107,7 @@ module _ {from : From} {now next : Shown} {p : Progress} {h : History} (t : Told
       → AreNumbered (call ++ h) → AreBelow (next.counts.peers + 1) (call ++ h)
       → Told from next (after_all (addresses_in from.run.config) call p) (call ++ h)
   told_more call may told dials faults numbered below = record {
-    grew = told ∙ ap (with_entries call) t.grew ∙ told_on call h from.start.told;
+    grew = companion.told_more from.start.told now.told next.told call h t.grew told;
     dials = dials ∙ t.dials;
     faults = faults ∙ t.faults;
     proper = More call (subst (λ x. MayAdd (due_for from.run x) call) (sym t.progress) may) t.proper;
@@ -142,77 +136,108 @@ module _ {from : From} {now next : Shown} {p : Progress} {h : History} (t : Told
     };
   }
 
+-- a call fails, by which no session comes
+faulty : (run : TvRun) (h : History) (ended : Driven) → IsFault ended
+    → MayEnd (due run h) ended × MadeTurns run h ended × (ended ≢ driven.WriteFault)
+faulty run h (driven.NetFault failure) is = (tt, tt, λ e. cc)
+faulty run h driven.Memory is = (tt, tt, λ e. cc)
+faulty run h _ is = absurd is
+
+pub failed : {from : From} {now next : Shown} {p : Progress} {h : History} {ended : Driven} → Told from now p h
+    → shared.Fails now next None ended → Stops from next ended
+failed {from} {h = h} {ended = ended} t f =
+    let k = faulty from.run h ended f.end in stops t f.told f.dials ended k.0 k.1 f.counted k.2
+
 -- ---- the loop
-pub adds : {T : Type 0} {old new : Shown} {entries : History} {value : T} → new.told ≡ with_entries entries old.told
-    → CountsPlain old.counts new.counts (Ok value) → Adds old new entries
-adds told k = record {
-  told = told;
-  dials = ap (λ x. x.dial_faults) k.same;
-  faults = k.faults;
-  peers = ap (λ x. x.peers) k.same;
+pub added : {old new : Shown} {entries : History} → shared.Adds old new entries → Adds old new entries
+added a = record {
+  told = a.told;
+  dials = ap (λ x. x.dial_faults) a.same;
+  faults = ap (λ x. x.faults) a.same;
+  peers = ap (λ x. x.peers) a.same;
 }
+
+-- the first of the peers, if there is one
+abbrev pub IsFirst : Option ℕ → List ℕ → Type 0
+IsFirst None xs = xs ≡ []
+IsFirst (Some peer) xs = (rest : List ℕ) × (xs ≡ peer ∷ rest)
+
+first_above : (last : Option ℕ) (ss : List Session) → IsFirst (next_open last ss) (above last (peers ss))
+first_above None [] = refl
+first_above None (s ∷ ss) = (peers ss, refl)
+first_above (Some last) [] = refl
+first_above (Some last) (s ∷ ss) = go (nat_lt last s.peer) (first_above (Some last) ss) where
+  go : (b : Bool) → IsFirst (next_open (Some last) ss) (above (Some last) (peers ss))
+      → IsFirst (cond b (Some s.peer) (next_open (Some last) ss))
+      (cond b (s.peer ∷ above (Some last) (peers ss)) (above (Some last) (peers ss)))
+  go true ih = (above (Some last) (peers ss), refl)
+  go false ih = ih
+
+-- how many peers may come after the last one
+abbrev pub room_after : Option ℕ → ℕ
+room_after None = 4294967296
+room_after (Some last) = 4294967295 - last
+
+pub later : (last : Option ℕ) (ss : List Session) (peer : ℕ) → Some peer ≡ next_open last ss → peer < 4294967296
+    → room_after (Some peer) < room_after last
+later None ss peer e lt = omega arith
+later (Some last) [] peer e lt = absurd (cc)
+later (Some last) (s ∷ ss) peer e lt = go (nat_lt last s.peer) refl e (λ e. later (Some last) ss peer e lt) where
+  go : (b : Bool) → nat_lt last s.peer ≡ b → Some peer ≡ cond b (Some s.peer) (next_open (Some last) ss)
+      → (Some peer ≡ next_open (Some last) ss → room_after (Some peer) < room_after (Some last))
+      → room_after (Some peer) < room_after (Some last)
+  go true is e on = let same : peer ≡ s.peer = cc in grind (arith, nat_tests)
+  go false is e on = on e
 
 module _ {from : From} {now : Shown} {air : OnAir} {to : List TvEvent → Progress} (x : Airs from now air to) where
   -- with other values of the loop, and where more is told
-  abbrev airs_with : {next : Shown} {air' : OnAir} {to' : List TvEvent → Progress} {h : History}
-      → air'.tv.stage ≡ air.tv.stage → Told from next (to' x.events) h
-      → Knows air'.peers.items next.counts.peers (live_after from x.events) → Airs from next air' to'
-  airs_with {h = h} stage t knows = record {
+  abbrev airs_by : {next : Shown} {air' : OnAir} {to' : List TvEvent → Progress} {h : History}
+      → air'.tv.stage ≡ air.tv.stage → Told from next (to' x.events) h → Airs from next air' to'
+  airs_by {h = h} stage t = record {
     events = x.events;
     h = h;
     history = t;
     addresses = ap (λ s. s.addresses) stage ∙ x.addresses;
     stage = subst (λ s. StandsFor s x.events) (sym stage) x.stage;
-    knows = knows;
   }
 
-  airs_by : {air' : OnAir} {to' : List TvEvent → Progress} → air'.tv.stage ≡ air.tv.stage
-      → air'.peers.items ≡ air.peers.items → Told from now (to' x.events) x.h → Airs from now air' to'
-  airs_by stage items t =
-      airs_with stage t (subst (λ xs. Knows xs now.counts.peers (live_after from x.events)) (sym items) x.knows)
-
   pub airs_as : {air' : OnAir} {to' : List TvEvent → Progress} → air'.tv.stage ≡ air.tv.stage
-      → air'.peers.items ≡ air.peers.items → to x.events ≡ to' x.events → Airs from now air' to'
-  airs_as stage items e = airs_by stage items (told_as _ x.history e)
+      → to x.events ≡ to' x.events → Airs from now air' to'
+  airs_as stage e = airs_by stage (told_as _ x.history e)
 
   -- A call that is due brings it on, by which no session comes.
-  pub moved : {next : Shown} (call : History) → AcceptsNone call → MayAdd (due_for from.run (to x.events)) call
-      → Adds now next call → Airs from next air (λ events. after_all (addresses_in from.run.config) call (to events))
-  moved {next} call none may added =
+  pub moved : {next : Shown} {d : Due} → due_for from.run (to x.events) ≡ d → (call : History) → AcceptsNone call
+      → MayAdd d call → Adds now next call
+      → Airs from next air (λ events. after_all (addresses_in from.run.config) call (to events))
+  moved {next} is call none may added =
       let known = numbered_on (now.counts.peers + 1) call x.h none (x.history.numbered, x.history.below) in
-      airs_with refl (told_more x.history call may added.told added.dials added.faults known.0
-      (subst (λ n. AreBelow (n + 1) (call ++ x.h)) (sym added.peers) known.1))
-      (subst (λ n. Knows air.peers.items n (live_after from x.events)) (sym added.peers) x.knows)
+      airs_by refl (told_more x.history call (subst (λ d. MayAdd d call) (sym is) may) added.told added.dials
+      added.faults known.0 (subst (λ n. AreBelow (n + 1) (call ++ x.h)) (sym added.peers) known.1))
 
-  -- whether a session is open
+  -- a call that all runs share is made where it is due, or it fails
+  pub called : {d : Due} → due_for from.run (to x.events) ≡ d → (call : History) → AcceptsNone call → MayAdd d call
+      → {T : Type 0} (next : Shown) (result : Result T Driven)
+      → Calls now next None (λ old new _. shared.Adds old new call) result
+      → MatchResult result
+      (λ _. Airs from next air (λ events. after_all (addresses_in from.run.config) call (to events))) (Stops from next)
+  called is call none may next (Ok value) went = moved is call none may (added went)
+  called is call none may next (Err ended) went = failed x.history went
+
   sessions_same : air.tv.stage.sessions ≡ sessions_of (calls_of (addresses_in from.run.config) x.events).sessions
   sessions_same = cc
 
-  pub is_live : (peer : ℕ)
-      → has peer (live_after from x.events) ≡ is_some (talk_of peer air.tv.stage.sessions.list)
-  is_live peer =
-      has_talk peer (calls_of (addresses_in from.run.config) x.events).sessions
-      ∙ ap (λ k. is_some (talk_of peer k.list)) (sym sessions_same)
+  -- the first open session after the last one
+  first_open : (last : Option ℕ) {first : Option ℕ} → first ≡ next_open last air.tv.stage.sessions.list
+      → IsFirst first (above last (live_after from x.events))
+  first_open last is =
+      rw is
+      (subst (λ xs. IsFirst (next_open last air.tv.stage.sessions.list) (above last xs))
+      (ap (λ k. peers k.list) sessions_same ∙ peers_are (calls_of (addresses_in from.run.config) x.events).sessions)
+      (first_above last air.tv.stage.sessions.list))
 
   -- what an event does by the events before it is what it does at the television
   pub outcome_same : (e : TvEvent) → outcome_at e air.tv.stage ≡ outcome_after (addresses_in from.run.config) x.events e
   outcome_same e = cc
-
--- A call failed, by which no session comes.
-pub failed : {T : Type 0} {from : From} {now next : Shown} {p : Progress} {h : History} {fault : OutFault}
-    {ended : Driven}
-    → Told from now p h → ((old new : Shown) → new.told ≡ old.told → new.counts.dial_faults ≡ old.counts.dial_faults
-    → CountsOutFault old.counts.faults new.counts.faults fault → Fails old new ended)
-    → next.told ≡ now.told → CountsPlain {T = T} now.counts next.counts (Err fault) → Stops from next ended
-failed {from = from} t fault_of told k =
-    fault_of _ _ told (ap (λ (x : Counts). x.dial_faults) k.same) k.faults from _ _ t
-
--- A call is made that is due, by which no session comes.
-pub made : {from : From} {now next : Shown} {air : OnAir} {d : Due} → (x : Comes (λ _ live. d) from now air)
-    → (call : History) → AcceptsNone call → MayAdd d call → Adds now next call
-    → Airs from next air
-    (λ events. after_all (addresses_in from.run.config) call (progress_at from.run air x.place [] events))
-made x call none may added = moved x.is_at call none (subst (λ d. MayAdd d call) (sym x.next) may) added
 
 -- The clock is read.
 pub read_on : {from : From} {now next : Shown} {air : OnAir} {to : List TvEvent → Progress}
@@ -221,12 +246,10 @@ pub read_on : {from : From} {now next : Shown} {air : OnAir} {to : List TvEvent 
     → Airs from next air (λ events. after (addresses_in from.run.config) (Clock w reading) (to events))
 read_on x w d reading (true, added) =
     let clocked : Clocked = record { reading = reading; slept = true } in
-    moved x (clock_entries w clocked) tt
-    (subst (λ due. MayAdd due (clock_entries w clocked)) (sym d) (clocked, refl)) added
+    moved x d (clock_entries w clocked) tt (clocked, refl) added
 read_on x w d reading (false, added) =
     let clocked : Clocked = record { reading = reading; slept = false } in
-    moved x (clock_entries w clocked) tt
-    (subst (λ due. MayAdd due (clock_entries w clocked)) (sym d) (clocked, refl)) added
+    moved x d (clock_entries w clocked) tt (clocked, refl) added
 
 -- ---- an event
 -- one that opens no session is told
@@ -237,7 +260,6 @@ pub happens : {from : From} {now : Shown} {air : OnAir} {place : Place} {owed : 
 happens {from} e n x = let a = addresses_in from.run.config in record {
   airs = x;
   fresh = is_fresh e n (calls_of a x.events).sessions;
-  covers = event_narrows a e x.events n _ x.knows.covers;
 }
 
 outs_by : (k : Kept) (old new : Stage) (after : List TvOut) (r x : Result Outcome TvFault) → old.sessions ≡ k → r ≡ x
@@ -265,64 +287,45 @@ heard_of {from} {air = air} {place} {e} {owed} happens tv after done stands serv
       addresses = by.1 ∙ x.addresses;
       stage = stands x.events x.stage
           (subst (λ (y : Addresses). IsFresh e (calls_of y x.events).sessions) (sym x.addresses) happens.fresh);
-      knows = record { rising = x.knows.rising; below = x.knows.below; covers = happens.covers };
     }
 
 -- ---- sessions
-none_of : {T : Type 0} → (o : Option T) → is_some o ≡ false → o ≡ None
-none_of None e = refl
-none_of (Some x) e = absurd (cc)
-
-pub not_open : (r b : Bool) → ((r ≡ true) ↔ (b ≡ true)) → r ≡ false → b ≡ false
-not_open r false i e = refl
-not_open r true i e = absurd (let f : r ≡ true = i.1 refl in cc)
-
 module _ {from : From} {now : Shown} {air : OnAir} where
-  -- a peer above the greatest has no session
-  pub unused_of : {to : List TvEvent → Progress} → Airs from now air to → IsUnused now air.tv
+  -- a peer above the greatest never had a session
+  no_life : {place : Place} (x : IsAt place from now air) (peer : ℕ) → now.counts.peers < peer
+      → life_of peer (calls_of (addresses_in from.run.config) x.events).sessions ≡ None
+  no_life x peer lt =
+      ap (λ (p : Progress). life_of peer (calls_of (addresses_in from.run.config) p.events).sessions)
+      (sym x.history.progress)
+      ∙ (all_good from.run x.h x.history.proper x.history.numbered peer).unused
+      (below_later _ _ x.h (omega (arith, lt)) x.history.below)
+
+  pub unused_of : {place : Place} → IsAt place from now air → IsUnused now air.tv
   unused_of x = λ peer lt.
-      let live = live_after from x.events in
-      none_of (talk_of peer air.tv.stage.sessions.list) (sym (is_live x peer) ∙ lists.has-none peer live
-      (lists.below_live peer _ live (lists.below_next _ peer _ lt x.knows.below) x.knows.covers))
+      let stands = x.stage.sessions in
+      let h = (calls_of air.tv.stage.addresses x.events).sessions in
+      ap (λ k. talk_of peer k.list) stands.same ∙ (is_kept h stands.lawful).talks peer
+      ∙ ap (kept (window_of peer h))
+      (ap (λ a. life_of peer (calls_of a x.events).sessions) x.addresses ∙ no_life x peer lt)
 
   -- a session comes
   pub welcomes : {next : Shown} → IsAt Served from now air → (peer : ℕ) (kind : PeerKind) (k : Kind)
       → (let a = addresses_in from.run.config in
-      (p : Progress) → opened a peer kind p ≡ happened a (event.Opened peer k) p)
+      (p : Progress) → after a (Accepted peer kind) p ≡ happened a (event.Opened peer k) (asked None p))
       → next.told ≡ with_entries (Accepted peer kind ∷ []) now.told
-      → CountsOpening now.counts next.counts (Ok (Some (peer, kind))) → Welcomes peer k from next air
-  welcomes {next} x peer kind k so told counted =
+      → CountsOpening now.counts next.counts (Ok (Some (peer, kind)))
+      → Happens (Asked None) [] (event.Opened peer k) from next air
+  welcomes x peer kind k so told counted =
       let lt : now.counts.peers < peer = counted.peer.0 in
-      let is : next.counts.peers ≡ peer = counted.peer.1 in
-      let a = addresses_in from.run.config in
-      let call = Accepted peer kind ∷ [] in
-      let xs = air.peers.items in
-      let before = lists.below_next now.counts.peers peer xs lt x.knows.below in
       let below : AreBelow peer x.h = below_later _ _ x.h (omega (arith, lt)) x.history.below in
-      let t : Told from next (happened a (event.Opened peer k) (progress_at from.run air (Asked None) [] x.events))
-      (call ++ x.h) =
-      told_as _ (told_more x.history call (Some (peer, kind), refl) told
-      (ap (λ (y : Counts). y.dial_faults) counted.same) counted.faults
-      (below, x.history.numbered) (omega (arith, is), below_later _ _ x.h (omega (arith, lt, is)) x.history.below))
-      (so (progress_at from.run air (Asked None) [] x.events)) in
       record {
-        p = _;
-        h = call ++ x.h;
-        history = t;
-        happens = λ now' items. record {
-          airs = airs_with x refl t (subst (λ ys. Knows ys next.counts.peers (live_after from x.events)) (sym items)
-              (record {
-                rising = lists.rising_last 0 peer xs x.knows.rising before (omega arith);
-                below = All-push (λ other. other ≤ next.counts.peers) xs peer
-                    (lists.below_later now.counts.peers next.counts.peers xs (omega (arith, lt, is)) x.knows.below)
-                    (omega (arith, is));
-                covers = lists.covers_unopened peer xs _ before x.knows.covers;
-              }));
-          fresh = ap (λ (p : Progress). life_of peer (calls_of a p.events).sessions) (sym x.history.progress)
-              ∙ (all_good from.run x.h x.history.proper x.history.numbered peer).unused below;
-          covers = subst (λ ys. Covers ys (live_after from (event.Opened peer k ∷ x.events))) (sym items)
-              (event_covers a peer k x.events xs before x.knows.covers);
-        };
+        airs = airs_by x refl (told_as _ (told_more x.history (Accepted peer kind ∷ []) (Some (peer, kind), refl) told
+            (ap (λ (y : Counts). y.dial_faults) counted.same) counted.faults (below, x.history.numbered) (
+              let is = counted.peer.1 in omega (arith, is),
+              below_later _ _ x.h (let is = counted.peer.1 in omega (arith, lt, is)) x.history.below,
+            ))
+            (so (progress_at from.run air Served [] x.events)));
+        fresh = no_life x peer lt;
       }
 
   -- ---- what is owed
@@ -330,7 +333,7 @@ module _ {from : From} {now : Shown} {air : OnAir} where
   pub waiting : {place : Place} {o : TvOut} {rest : List TvOut} → Settles place (o ∷ rest) from now air
       → (o' : TvOut) → o ≡ o' → Airs from now air (λ events. progress_at from.run air place (o' ∷ rest) events)
   waiting {place} {o} {rest} x o' e =
-      airs_as x refl refl
+      airs_as x refl
       (settled_stops (addresses_in from.run.config) (progress_at from.run air place (o ∷ rest) x.events) refl
       ∙ ap (λ y. progress_at from.run air place (y ∷ rest) x.events) e)
 
@@ -347,7 +350,7 @@ module _ {from : From} {now : Shown} {air : OnAir} where
       → IsAt (Answers peer (response ∷ option_to_list later)) from next air
   answer_read {peer = peer} x reading read response e later f =
       let y = read_on x why.Give refl reading read in
-      airs_as y refl refl (cc)
+      airs_as y refl (cc)
 
   -- ---- turns
   -- one begins
@@ -358,7 +361,7 @@ module _ {from : From} {now : Shown} {air : OnAir} where
       let live = live_after from x.is_at.events in
       let y = read_on x.is_at why.Turn (x.next ∙ ap (λ b. cond b (Now why.Turn) (from_hang_ups live)) goes) reading
       read in
-      airs_as y refl refl (cc)
+      airs_as y refl (cc)
 
   -- a datagram is taken, unless the turn is the last by its time
   pub may_take : IsTurned from now air → is_over air.turns ≡ false → Comes (λ _ live. TakeDatagram) from now air
@@ -371,29 +374,27 @@ module _ {from : From} {now : Shown} {air : OnAir} where
 -- ---- the beginning
 pub at_first : (run : TvRun) (start : Shown) → Told (started run start) start (beginning run) []
 at_first run start = record {
-  grew = same start.told;
+  grew = no_entries start.told;
   dials = refl;
   faults = refl;
   proper = Empty;
   numbered = tt;
   below = tt;
   progress = refl;
-} where
-  same : (s : Option History) → s ≡ with_entries [] s
-  same None = refl
-  same (Some h) = refl
+}
 
-module _ (run : TvRun) {start now : Shown}
-    (added : Adds start now (Listening run.config.host run.config.port ∷ [])) where
+module _ (run : TvRun) {start now : Shown} {T : Type 0} {value : T}
+    (told : now.told ≡ with_entries (Listening run.config.host run.config.port ∷ []) start.told)
+    (counted : CountsPlain start.counts now.counts (Ok value)) where
   pub listens : Told (started run start) now (record (beginning run) { place = Listens })
       (Listening run.config.host run.config.port ∷ [])
-  listens = told_more (at_first run start) (Listening run.config.host run.config.port ∷ []) refl added.told added.dials
-      added.faults tt tt
+  listens = told_more (at_first run start) (Listening run.config.host run.config.port ∷ []) refl told
+      (ap (λ (x : Counts). x.dial_faults) counted.same) counted.faults tt tt
 
   pub begins : (air : OnAir) → air.tv.stage.addresses ≡ addresses_in run.config → StandsFor air.tv.stage []
-      → air.tv.server ≡ server_of run.config → air.peers.items ≡ [] → air.turns ≡ no_turns run.limit run.relative
-      → air.lines ≡ 0 → Comes at_end (started run start) now air
-  begins air addresses stands server none turns zero = record {
+      → air.tv.server ≡ server_of run.config → air.turns ≡ no_turns run.limit run.relative → air.lines ≡ 0
+      → Comes at_end (started run start) now air
+  begins air addresses stands server turns zero = record {
     place = Listens;
     is_at = record {
       events = [];
@@ -402,8 +403,6 @@ module _ (run : TvRun) {start now : Shown}
           (let left : drop air.lines run.script ≡ run.script = ap (λ n. drop n run.script) zero in cc);
       addresses = addresses;
       stage = stands;
-      knows = subst (λ xs. Knows xs now.counts.peers []) (sym none)
-          (record { rising = tt; below = All-nil (λ peer. peer ≤ now.counts.peers); covers = refl });
     };
     next = refl;
   }
@@ -441,7 +440,7 @@ module _ {from : From} {now : Shown} {air : OnAir} {r : ℕ} {line : ScriptLine}
 
   -- it is no event
   pub passed_over : None ≡ event_of r line.verb → Settles (Turned r) [] from now (past_line air)
-  passed_over e = airs_by x.settles refl refl (carried None e)
+  passed_over e = airs_by x.settles refl (carried None e)
 
   -- it is one, and the player accepts it
   pub line_happens : (e : TvEvent) → Some e ≡ event_of r line.verb → (new : Stage) (after : List TvOut)
@@ -449,7 +448,7 @@ module _ {from : From} {now : Shown} {air : OnAir} {r : ℕ} {line : ScriptLine}
       → Happens (Turned r) [] e from now (past_line air)
   line_happens e is new after done =
       happens e (subst (λ o. IfSome o IsNoOpening) (sym is) (opens_none r line.verb))
-      (airs_by x.settles refl refl (told_as _ (carried (Some e) is)
+      (airs_by x.settles refl (told_as _ (carried (Some e) is)
       (ap (by_outcome e) (sym (outcome_same x.settles e)) ∙ by (outcome_at e air.tv.stage) done)))
     where
       by : (o : Result Outcome TvFault) → IsAfterBy air.tv.stage new [] after o
@@ -480,7 +479,7 @@ module _ {from : From} {now : Shown} {air : OnAir} (r : ℕ) (x : Settles (Turne
       (progress_at from.run air (Turned r) [] x.events)
 
   pub no_line : length script ≤ air.lines → IsTurned from now air
-  no_line over = (r, airs_as x refl refl (ap going_on (ap (drop air.lines) e ∙ peers_all script air.lines over)))
+  no_line over = (r, airs_as x refl (ap going_on (ap (drop air.lines) e ∙ peers_all script air.lines over)))
 
   -- this is the next one, and its time counts from this reading
   module _ (line : ScriptLine) (lt : air.lines < length script) (is : line ≡ get_or script air.lines line)
@@ -505,7 +504,7 @@ module _ {from : From} {now : Shown} {air : OnAir} (r : ℕ) (x : Settles (Turne
         let p = progress_at from.run air (Turned r) [] x.events in
         let waits : is_due begun r line ≡ false = grind (arith, nat_tests) in (
           r,
-          airs_as x refl refl (ap going_on next
+          airs_as x refl (ap going_on next
               ∙ ap (λ b. cond b (carry a (since air.turns) r left (with_line a r line left p)) p)
               (ap (λ m. is_due m r line) since_is ∙ waits)),
         )
@@ -515,68 +514,24 @@ pub comes_as : {from : From} {now : Shown} {air : OnAir} {to to' : OnAir → Lis
     → (let live = live_after from x.is_at.events in to air live ≡ to' air live) → Comes to' from now air
 comes_as x e = record { place = x.place; is_at = x.is_at; next = x.next ∙ e }
 
-module _ (f : Turns → List ℕ → List ℕ → Due) {from : From} {now : Shown} {air : OnAir} where
-  -- all open sessions are left
-  pub all_left : Comes (λ air live. f air.turns live live) from now air → Comes (left_from f 0) from now air
-  all_left x = comes_as x (ap (f air.turns (live_after from x.is_at.events)) (sym x.is_at.knows.covers))
-
-  -- those after this one
-  pub left_after : {place : Place} → IsAt place from now air → (at peer : ℕ)
-      → ((live : List ℕ) → due_at from.run live air.turns place ≡ f air.turns live (above (Some peer) live))
-      → drop at air.peers.items ≡ peer ∷ drop (at + 1) air.peers.items → Comes (left_from f (at + 1)) from now air
-  left_after {place} x at peer after e =
-      let live = live_after from x.events in
-      record {
-        place = place;
-        is_at = x;
-        next = after live ∙ ap (f air.turns live)
-            (lists.above_passed at peer air.peers.items live _ x.knows.rising x.knows.covers e);
-      }
-
-  module _ (at : ℕ) (x : Comes (left_from f at) from now air) where
-    -- no session is left
-    pub none_left : length air.peers.items ≤ at → Comes (λ air live. f air.turns live []) from now air
-    none_left over =
-        let live = live_after from x.is_at.events in
-        comes_as x (ap (λ xs. f air.turns live (filter (λ peer. has peer live) xs)) (peers_all air.peers.items at over))
-
-    -- that of this peer is the next one, if it has one
-    pub next_left : (peer : ℕ) → drop at air.peers.items ≡ peer ∷ drop (at + 1) air.peers.items → (is : Bool)
-        → has peer (live_after from x.is_at.events) ≡ is
-        → Comes (λ air live. let left = filter (λ other. has other live) (drop (at + 1) air.peers.items) in
-        f air.turns live (cond is (peer ∷ left) left)) from now air
-    next_left peer e is there =
-        let live = live_after from x.is_at.events in
-        let left = filter (λ other. has other live) (drop (at + 1) air.peers.items) in
-        comes_as x (ap (λ xs. f air.turns live (filter (λ other. has other live) xs)) e
-        ∙ ap (λ b. f air.turns live (cond b (peer ∷ left) left)) there)
-
-  -- a peer that has none is removed
-  pub peer_removed : (at peer : ℕ) → drop at air.peers.items ≡ peer ∷ drop (at + 1) air.peers.items
-      → (x : Comes (left_from f (at + 1)) from now air) → has peer (live_after from x.is_at.events) ≡ false
-      → (other : OnAir) → other.peers.items ≡ remove air.peers.items at
-      → Comes (left_from f at) from now (with_peers air other)
-  peer_removed at peer e x lacks other items =
+-- what is due where a session is the first open one after the last, and where none is
+module _ (f : Turns → List ℕ → List ℕ → Due) {from : From} {now : Shown} {air : OnAir} (last : Option ℕ)
+    (x : Comes (still f last) from now air) where
+  pub first_due : (peer : ℕ) → Some peer ≡ next_open last air.tv.stage.sessions.list → (d : Due)
+      → ((live rest : List ℕ) → f air.turns live (peer ∷ rest) ≡ d) → Comes (λ _ live. d) from now air
+  first_due peer is d so =
       let live = live_after from x.is_at.events in
-      let xs = air.peers.items in
-      let k = x.is_at.knows in
-      record {
-        place = x.place;
-        is_at = airs_with x.is_at refl x.is_at.history
-            (subst (λ ys. Knows ys now.counts.peers live) (sym items) (record {
-              rising = lists.rising_removed 0 at peer xs _ e k.rising;
-              below = lists.below_removed (λ other. other ≤ now.counts.peers) at xs k.below;
-              covers = lists.filter_removed (λ other. has other live) at peer xs _ e lacks ∙ k.covers;
-            }));
-        next = let d = lists.drop_removed at peer xs _ e in cc;
-      }
+      let e = first_open x.is_at last is in
+      comes_as x (ap (f air.turns live) e.1 ∙ so live e.0)
+
+  pub none_due : None ≡ next_open last air.tv.stage.sessions.list → Comes (λ air live. f air.turns live []) from now air
+  none_due is = comes_as x (ap (f air.turns (live_after from x.is_at.events)) (first_open x.is_at last is))
 
 -- the turns are over
 pub turns_over : {from : From} {now : Shown} {air : OnAir} → Comes at_end from now air → goes_on air.turns ≡ false
-    → Comes (left_from hanging_up 0) from now air
+    → Comes (still hanging_up None) from now air
 turns_over {from} x over =
-    let live = live_after from x.is_at.events in
-    all_left hanging_up (comes_as x (ap (λ b. cond b (Now why.Turn) (from_hang_ups live)) over))
+    comes_as x (ap (λ b. cond b (Now why.Turn) (from_hang_ups (live_after from x.is_at.events))) over)
 
 -- the run is done, once all sessions are hung up
 pub all_hung : {from : From} {now : Shown} {air : OnAir} → Comes (λ _ live. Ends driven.Done) from now air

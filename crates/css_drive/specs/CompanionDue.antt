@@ -2,7 +2,7 @@
 use Rattle.std.specs.Prelude.{ℕ, nat_lt, List, [], ◌∷◌, length, Bool, ◌&&◌, if◌then◌else◌, Option, Some, None, is_some}
 use Rattle.std.specs.Prelude.{not, Result, Ok, Err}
 use Rattle.std.specs.Option.{option_map}
-use Rattle.css_model.specs.declared.Why.{Why}
+use Rattle.std.specs.Result.{result_err}
 use Rattle.css_model.specs.declared.Why.TheVariants as why
 use Rattle.css_model.specs.declared.Kind.{Kind}
 use Rattle.css_model.specs.declared.Kind.TheVariants as kind
@@ -13,7 +13,6 @@ use Rattle.css_address.specs.Addresses.{address_of}
 use Rattle.css_address.specs.declared.fault.AddressFault.{AddressFault}
 use Rattle.css_cii.specs.declared.name.CiiName.{CiiName}
 use Rattle.css_cii.specs.declared.name.CiiName.TheVariants.{WcUrl, TsUrl}
-use Rattle.css_cii.specs.declared.state.State.{State}
 use Rattle.css_tsmsg.specs.Presentations.{presentation_text}
 use Rattle.css_tsmsg.specs.Setups.{setup_text}
 use Rattle.css_tsmsg.specs.declared.bound.Bound.{Bound}
@@ -67,20 +66,13 @@ text_gone (Connected peer) = Called kind.Ts
 text_gone (SetUp peer) = Called kind.Ts
 text_gone point = point
 
-abbrev pub clock_read : Why → ℕ → Point → Point
-clock_read why.Turn reading point = Begun
-clock_read why.Ask reading point = Asking reading
-clock_read why.Land reading point = Received
-clock_read _ reading point = point
-
-abbrev pub peer_dialled : Kind → ℕ → Point
-peer_dialled kind.Ts peer = Connected peer
-peer_dialled kind peer = Called kind
-
 -- where the turn is after an entry
 abbrev pub moved : Entry → Point → Point
-moved (Clock why reading) point = clock_read why reading point
-moved (Dialled kind peer) point = peer_dialled kind peer
+moved (Clock why.Turn reading) point = Begun
+moved (Clock why.Ask reading) point = Asking reading
+moved (Clock why.Land reading) point = Received
+moved (Dialled kind.Ts peer) point = Connected peer
+moved (Dialled kind peer) point = Called kind
 moved (NotDialled kind) point = Called kind
 moved (Sent peer bytes) point = Requested
 moved (Took peer bytes) point = Arrived
@@ -216,14 +208,10 @@ due_at config (HeardFrom peer) history =
 due_at config Over history = from_hang_ups (final config history) history
 
 -- ---- texts that are refused
-abbrev pub fault_in : Result State CompanionFault → Option CompanionFault
-fault_in (Ok state) = None
-fault_in (Err fault) = Some fault
-
 -- the fault of a text of the CII session after a history, if it is refused
 abbrev pub refusal_of : Option (List ℕ) → History → Option CompanionFault
 refusal_of None older = None
-refusal_of (Some bytes) older = fault_in (told (next_number (texts_of older)) (state_of older) bytes)
+refusal_of (Some bytes) older = result_err (told (next_number (texts_of older)) (state_of older) bytes)
 
 -- the fault of the text that came last, if it is one of the CII session and is refused
 abbrev pub refusal : History → Option CompanionFault

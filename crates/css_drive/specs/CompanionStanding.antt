@@ -1,19 +1,19 @@
 -- How the variables of a companion's run stand for its history.
 use Rattle.std.specs.Prelude.{◌≡◌, ◌≤◌, ◌<◌, ℕ, List, Bool, true, false, [], ◌∷◌, ◌++◌, Option, Some, None, Result, Ok}
 use Rattle.std.specs.Prelude.{Err, MatchResult, OnOk, IfErr, IfSome, is_some, nat_lt, ◌&&◌, ◌||◌, if◌then◌else◌}
-use Rattle.std.specs.Prelude.{length, ⊤}
+use Rattle.std.specs.Prelude.{length, not, ⊤}
 use Rattle.css_model.specs.declared.TheConstants.{LIMIT}
 use Rattle.css_model.specs.declared.Why.{Why}
 use Rattle.css_model.specs.declared.Kind.{Kind}
 use Rattle.css_model.specs.declared.Kind.TheVariants as kind
 use Rattle.css_model.specs.Explains.{IsLawful}
-use Rattle.css_model.specs.History.{Address, Dialling, Dialled, NotDialled, HungUp, History}
+use Rattle.css_model.specs.History.{Address, Dialling, Dialled, NotDialled, Heard, HungUp, History}
 use Rattle.css_outside.specs.Faults.{HasRisen}
 use Rattle.css_outside.specs.Outsides.{Counts, with_entries, clock_entries, sleep_entries}
 use Rattle.css_outside.specs.declared.calls.Clocked.{Clocked}
 use Rattle.css_outside.specs.declared.calls.Wrote.{Wrote as Outcome}
 use Rattle.css_outside.specs.declared.calls.Wrote.TheVariants as outcome
-use Rattle.css_companion.specs.Meanings.{kind_of}
+use Rattle.css_companion.specs.Meanings.{kind_of, is_cii}
 use Rattle.css_companion.specs.Standing.{Companion, StandsFor, own_of, wanted_by}
 use Rattle.css_address.specs.declared.fault.AddressFault.{AddressFault}
 use Rattle.css_cii.specs.declared.name.CiiName.{CiiName}
@@ -21,10 +21,10 @@ use Rattle.css_companion.specs.declared.fault.CompanionFault.{CompanionFault}
 use Rattle.css_outside.specs.declared.fault.OutFault.{OutFault}
 use Rattle.css_outside.specs.declared.fault.OutFault.TheVariants as fault
 use Rattle.css_drive.specs.CompanionTurns.{first_turn, this_turn, turns, dialled, opened, asked_turn, is_peer, unless}
-use Rattle.css_drive.specs.CompanionTurns.{goes_on}
+use Rattle.css_drive.specs.CompanionTurns.{goes_on, is_late}
 use Rattle.css_drive.specs.CompanionReports.{due_reports, KeepsPromises}
 use Rattle.css_drive.specs.CompanionDue.{due, due_at, from_hang_ups, final, end_by, IsProperRun, Point, point_of}
-use Rattle.css_drive.specs.CompanionDue.{text_sent, text_gone, from_cii_text, from_ts_text, from_end}
+use Rattle.css_drive.specs.CompanionDue.{text_sent, text_gone, from_cii_text, from_ts_text, from_end, refusal_of}
 use Rattle.css_drive.specs.Ends.{MayEnd, CountsNetFault}
 use Rattle.css_drive.specs.Notes.{Note, noted}
 use Rattle.css_drive.specs.Proper.{Due, Now}
@@ -46,19 +46,7 @@ shown told counts = record { told = told; counts = counts }
 
 -- ---- what the variables say of the history
 -- what a run has to know of its history
-pub record Facts : Type 0 where
-  pub first : Option ℕ
-  pub turn : Option ℕ
-  pub asked : Option ℕ
-  pub made : ℕ
-  pub reported : ℕ
-  pub cii : Option ℕ
-  pub wc : Option ℕ
-  pub ts : Option ℕ
-  pub cii_open : Option ℕ
-  pub ts_open : Option ℕ
-
-abbrev pub facts_of : DriveConfig → History → Facts
+abbrev pub facts_of : DriveConfig → History → Live
 facts_of config history = record {
   first = first_turn history;
   turn = this_turn history;
@@ -70,21 +58,6 @@ facts_of config history = record {
   ts = dialled kind.Ts history;
   cii_open = opened kind.Cii history;
   ts_open = opened kind.Ts history;
-}
-
--- the same, as the variables have it
-abbrev pub facts_in : Live → Facts
-facts_in live = record {
-  first = live.first;
-  turn = live.turn;
-  asked = live.asked;
-  made = live.made;
-  reported = live.reported;
-  cii = live.cii;
-  wc = live.wc;
-  ts = live.ts;
-  cii_open = live.cii_open;
-  ts_open = live.ts_open;
 }
 
 -- the peer of the last dial of a kind is known as such, and has a number up to this one
@@ -100,7 +73,7 @@ pub record Stands (config : DriveConfig) (before now : Shown) (saw : List Note �
   pub told : now.told ≡ with_entries history before.told
   pub faults : now.counts.faults ≡ before.counts.faults
   pub proper : IsProperRun config history
-  pub facts : facts_of config history ≡ facts_in live
+  pub facts : facts_of config history ≡ live
   pub peers : KnowsPeers now.counts.peers history
   pub saw_so : saw (noted config history)
 
@@ -230,7 +203,7 @@ final_end (Some fault.Memory) ended = driven.Memory
 pub record Fails (old new : Shown) (over : Option OutFault) (ended : Driven) : Type 0 where
   pub told : new.told ≡ old.told
   pub counted : CountsNetFault old.counts.faults new.counts.faults ended
-  pub dials : old.counts.dial_faults ≤ new.counts.dial_faults
+  pub dials : new.counts.dial_faults ≡ old.counts.dial_faults
   pub end : IsEndBy over ended
   pub early : IsEarly ended
 
@@ -279,14 +252,19 @@ pub record HasRead (old new : Shown) (before now : Live) (was is : Companion) (w
   pub floor : is.client.floor ≤ clocked.reading
   pub known : (config : DriveConfig) (history : History) → Knows config was history
       → Knows config is (sleep_entries clocked.slept ++ history)
-  pub only : facts_in now ≡ record (facts_in before) { asked = asked_after clocked.slept before.asked }
+  pub only : now ≡ record before { asked = asked_after clocked.slept before.asked }
 
 -- what is open of a session once that of a peer is over
 abbrev pub still : Option ℕ → ℕ → Option ℕ
 still session peer = unless (is_peer session peer) session
 
-abbrev pub without : ℕ → Facts → Facts
-without peer facts = record facts { cii_open = still facts.cii_open peer; ts_open = still facts.ts_open peer }
+abbrev pub without : ℕ → Live → Live
+without peer live = record live { cii_open = still live.cii_open peer; ts_open = still live.ts_open peer }
+
+-- the kind of a session
+abbrev pub kind_for : Session → Kind
+kind_for session.Cii = kind.Cii
+kind_for session.Ts = kind.Ts
 
 -- the peer of a session that is open
 abbrev pub open_of : Session → Live → Option ℕ
@@ -298,6 +276,13 @@ abbrev pub IsRefusal : Option CompanionFault → Driven → Type 0
 IsRefusal refusal driven.Memory = ⊤
 IsRefusal None ended = ⊥
 IsRefusal (Some fault) ended = ended ≡ end_by fault
+
+-- the companion took a text of a session in, or it is refused
+abbrev pub TakesIn : {T : Type 0} → DriveConfig → Session → ℕ → List ℕ → History → Companion → Result T Driven
+    → Type 0
+TakesIn config which peer text history is result =
+    let refusal = refusal_of (if is_cii (Some (kind_for which)) then Some text else None) history in
+    MatchResult result (λ _. (refusal ≡ None) × Knows config is (Heard peer text ∷ history)) (IsRefusal refusal)
 
 -- the run hangs up the sessions that are open, to end so
 pub record Hangs (config : DriveConfig) (before now : Shown) (saw : List Note → Type 0) (live : Live) (end : Driven)
@@ -342,7 +327,6 @@ pub record Names {O W : Type 0} (old new : Run O W) : Type 0 where
 pub record Stays {O W T : Type 0} (counts : O → Counts) (old new : Run O W) (result : Result T Driven) : Type 0 where
   pub names : Names old new
   pub made : new.live.made ≡ old.live.made
-  pub reported : new.live.reported ≡ old.live.reported
   pub dialled : new.live.cii ≡ None → old.live.cii ≡ None
   pub dials : (counts old.outside.now).dial_faults ≤ (counts new.outside.now).dial_faults
   pub floor : old.companion.now.client.floor ≤ (counts old.outside.now).last
@@ -355,15 +339,20 @@ HasTried config started now live =
     live.reported < config.reports → (live.first ≡ None → ⊥) → live.cii ≡ None → HasRisen started now
 
 -- whether another turn follows
-abbrev pub is_another : DriveConfig → Facts → Bool
-is_another config facts =
-    nat_lt facts.reported config.reports && goes_on config.limit facts.first facts.turn facts.made
+abbrev pub is_another : DriveConfig → Live → Bool
+is_another config live =
+    nat_lt live.reported config.reports && goes_on config.limit live.first live.turn live.made
+
+-- whether the calls of a turn follow its report
+abbrev pub is_calling : DriveConfig → Live → Bool
+is_calling config live =
+    nat_lt live.reported config.reports && not (is_late config.limit live.first live.turn)
 
 -- how a run ends that makes no turn any more, where so many reports were asked for
-abbrev pub ending_of : ℕ → Facts → Driven
-ending_of reports facts =
-    if nat_lt facts.reported reports
-    then (if is_some facts.cii || (is_some facts.wc || is_some facts.ts)
-    then driven.Spent facts.made
-    else driven.Unreachable facts.made)
+abbrev pub ending_of : ℕ → Live → Driven
+ending_of reports live =
+    if nat_lt live.reported reports
+    then (if is_some live.cii || (is_some live.wc || is_some live.ts)
+    then driven.Spent live.made
+    else driven.Unreachable live.made)
     else driven.Done

@@ -9,9 +9,6 @@ pub mod CompanionRun
 pub mod Telling
 pub mod CompanionStanding
 pub mod CompanionLaws
-pub mod SameEvents
-pub mod TvPeers
-pub mod TvTurns
 pub mod TvProgress
 pub mod TvDue
 pub mod TvRan

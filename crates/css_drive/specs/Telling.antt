@@ -14,11 +14,6 @@ use Rattle.css_drive.specs.declared.driven.Driven.{Driven}
 use Rattle.css_drive.specs.declared.driven.Driven.TheVariants as driven
 
 -- ---- one report
--- a report has this text, its line and what the followers said of it
-abbrev pub HasSaid : ℕ → Report → List Listener → List Listener → List ℕ → Type 0
-HasSaid number report before now text =
-    (words : List ℕ) × (text ≡ line_of number report None ++ words) × HearEach report before now words
-
 -- what a sink holds, and what its followers heard
 pub record Audience : Type 0 where
   pub holds : Option (List ℕ)

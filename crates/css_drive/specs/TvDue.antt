@@ -1,5 +1,5 @@
 -- Which call a television's run has to make next: a function of what its calls did so far.
-use Rattle.std.specs.Prelude.{ℕ, ◌+◌, List, [], ◌∷◌, if◌then◌else◌, Option, Some, None}
+use Rattle.std.specs.Prelude.{ℕ, ◌+◌, nat_lt, List, [], ◌∷◌, filter, if◌then◌else◌, Option, Some, None}
 use Rattle.css_model.specs.declared.Why.TheVariants as why
 use Rattle.css_model.specs.History.{History}
 use Rattle.css_tv.specs.declared.event.TvOut.{TvOut}
@@ -11,10 +11,8 @@ use Rattle.css_schedule.specs.declared.line.ScriptLine.{ScriptLine}
 use Rattle.css_drive.specs.Proper.{Due, Listen, Now, Accept, SendDatagram, TakeDatagram, TakeText, SendText, HangUp}
 use Rattle.css_drive.specs.Proper.{Ends}
 use Rattle.css_drive.specs.TvProgress.{Place, Begins, Listens, Turned, Taken, Received, Answers, Served, Asked, Over}
-use Rattle.css_drive.specs.TvProgress.{Progress, open_after, addresses_in, progress_of}
+use Rattle.css_drive.specs.TvProgress.{Progress, is_over, goes_on, open_after, addresses_in, progress_of}
 pub use Rattle.css_drive.specs.TvProgress.{TvRun}
-use Rattle.css_drive.specs.TvTurns.{is_over, goes_on}
-use Rattle.css_drive.specs.TvPeers.{above}
 use Rattle.css_drive.specs.declared.driven.Driven.{Driven}
 use Rattle.css_drive.specs.declared.driven.Driven.TheVariants as driven
 use Rattle.css_drive.specs.declared.turns.Turns.{Turns}
@@ -28,6 +26,11 @@ run_of drive script = record {
   relative = drive.relative;
   script = script;
 }
+
+-- those of the peers that come after the last one
+abbrev pub above : Option ℕ → List ℕ → List ℕ
+above None peers = peers
+above (Some last) peers = filter (λ peer. nat_lt last peer) peers
 
 -- ---- the steps of a turn, the last first: what is due from there on
 -- the open sessions are hung up in order of peer, and the run is done
@@ -44,21 +47,15 @@ abbrev pub from_texts : Turns → List ℕ → List ℕ → Due
 from_texts turns live [] = from_end turns live
 from_texts turns live (peer ∷ peers) = TakeText peer
 
--- a datagram, unless the turn is the last by its time
-abbrev pub from_turn : Turns → List ℕ → Due
-from_turn turns live = if is_over turns then from_hang_ups live else TakeDatagram
-
-abbrev pub from_answers : ℕ → List (List ℕ) → Due
-from_answers peer [] = Accept
-from_answers peer (datagram ∷ datagrams) = SendDatagram peer datagram
-
+-- a datagram is taken unless the turn is the last by its time
 abbrev pub due_at : TvRun → List ℕ → Turns → Place → Due
 due_at run live turns Begins = Listen run.config.host run.config.port
 due_at run live turns Listens = from_end turns live
-due_at run live turns (Turned reading) = from_turn turns live
+due_at run live turns (Turned reading) = if is_over turns then from_hang_ups live else TakeDatagram
 due_at run live turns (Taken peer bytes) = Now why.Take
 due_at run live turns (Received peer ticket) = Now why.Give
-due_at run live turns (Answers peer datagrams) = from_answers peer datagrams
+due_at run live turns (Answers peer []) = Accept
+due_at run live turns (Answers peer (datagram ∷ datagrams)) = SendDatagram peer datagram
 due_at run live turns Served = Accept
 due_at run live turns (Asked last) = from_texts turns live (above last live)
 due_at run live turns (Over last) = from_hang_ups (above (Some last) live)

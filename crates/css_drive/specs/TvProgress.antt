@@ -1,10 +1,9 @@
 -- How far a television's run has come: a function of what its calls did so far.
-use Rattle.std.specs.Prelude.{ℕ, ◌+◌, nat_le, List, [], ◌∷◌, ◌++◌, Bool, true, false, ◌&&◌, if◌then◌else◌, Option, Some}
-use Rattle.std.specs.Prelude.{None, Result, Ok, Err}
+use Rattle.std.specs.Prelude.{◌≡◌, ◌<◌, ◌==◌, ℕ, ◌+◌, nat_le, nat_lt, List, [], ◌∷◌, ◌++◌, Bool, true, false, ◌&&◌, not}
+use Rattle.std.specs.Prelude.{if◌then◌else◌, Option, Some, None, Result, Ok, Err}
 use Rattle.std.specs.Option.{option_map, option_to_list}
-use Rattle.css_model.specs.declared.Why.{Why}
+use Rattle.css_model.specs.declared.TheConstants.{LIMIT}
 use Rattle.css_model.specs.declared.Why.TheVariants as why
-use Rattle.css_model.specs.declared.Kind.{Kind as PeerKind}
 use Rattle.css_model.specs.declared.Kind.TheVariants as peer_kind
 use Rattle.css_model.specs.History.{Entry, History, Listening, Clock, Accepted, NoneCame, Sent, Took, TookNone, Quiet}
 use Rattle.css_model.specs.History.{Heard, Closed, Wrote, Gone, HungUp}
@@ -27,9 +26,10 @@ use Rattle.css_tv.specs.declared.state.Addresses.{Addresses}
 use Rattle.css_schedule.specs.declared.line.ScriptLine.{ScriptLine}
 use Rattle.css_schedule.specs.declared.line.Verb.{Verb}
 use Rattle.css_schedule.specs.declared.line.Verb.TheVariants.{Programme, Timeline, Viewer}
+use Rattle.css_outside.specs.Limits.{most_turns, IsLimit}
+use Rattle.css_outside.specs.Limits as limits
 use Rattle.css_outside.specs.declared.limit.Limit.{Limit}
 use Rattle.css_drive.specs.declared.turns.Turns.{Turns}
-use Rattle.css_drive.specs.TvTurns.{no_turns, begun, since}
 
 -- what a television is started with, how long its run goes on, and its script, whose times are readings, or count from
 -- that of the first turn
@@ -38,6 +38,41 @@ pub record TvRun : Type 0 where
   pub limit : Limit
   pub relative : Bool
   pub script : List ScriptLine
+
+-- ---- turns
+-- none was begun
+abbrev pub no_turns : Limit → Bool → Turns
+no_turns limit relative = record { limit = limit; relative = relative; made = 0; first = 0; last = 0 }
+
+-- One more is begun, at this reading.
+abbrev pub begun : ℕ → Turns → Turns
+begun reading t = record t {
+  made = t.made + 1;
+  first = if t.made == 0 then reading else t.first;
+  last = reading;
+}
+
+-- The one that was begun last is the last by its time.
+abbrev pub is_over : Turns → Bool
+is_over t = limits.is_over t.limit t.first t.last
+
+-- whether another one begins: there may be more, and the last one isn't over by its time
+abbrev pub goes_on : Turns → Bool
+goes_on t = nat_lt t.made (most_turns t.limit) && not (is_over t)
+
+-- the reading from which the times of the script count
+abbrev pub since : Turns → ℕ
+since t = if t.relative then t.first else 0
+
+-- the ranges
+pub record IsRanged (t : Turns) : Type 0 where
+  pub limit : IsLimit t.limit
+  pub first : t.first < LIMIT
+  pub last : t.last < LIMIT
+
+-- one more was begun
+abbrev pub IsOneMore : (before now : Turns) → Type 0
+IsOneMore before now = (reading : ℕ) × (reading < LIMIT) × (now ≡ begun reading before)
 
 -- ---- places
 -- Where a run stands: by its last entry that is no output of a step and no sleep.
@@ -189,27 +224,20 @@ abbrev pub hung_up : ℕ → List TvOut → Progress → Progress
 hung_up peer [] p = record p { place = Over peer }
 hung_up peer (out ∷ owed) p = record p { owed = owed }
 
-abbrev pub after_clock : Addresses → Why → ℕ → Progress → Progress
-after_clock a why.Turn reading p = settled a (record p { turns = begun reading p.turns; place = Turned reading })
-after_clock a why.Take reading p = received_at reading p.place p
-after_clock a why.Give reading p = answered_at reading p.place p
-after_clock a _ reading p = p
-
--- a session that a peer opened is of CSS-CII or of CSS-TS
-abbrev pub opened : Addresses → ℕ → PeerKind → Progress → Progress
-opened a peer peer_kind.Wc p = p
-opened a peer peer_kind.Cii p = happened a (event.Opened peer kind.Cii) p
-opened a peer peer_kind.Ts p = happened a (event.Opened peer kind.Ts) p
-
 -- where sessions are asked for their texts next
 abbrev pub asked : Option ℕ → Progress → Progress
 asked last p = record p { place = Asked last }
 
--- A text that is told as gone is the event that its session closed.
+-- A session that a peer opened is of CSS-CII or of CSS-TS. A text that is told as gone is the event that its session
+-- closed.
 abbrev pub after : Addresses → Entry → Progress → Progress
 after a (Listening host port) p = record p { place = Listens }
-after a (Clock w reading) p = after_clock a w reading p
-after a (Accepted peer k) p = opened a peer k (asked None p)
+after a (Clock why.Turn reading) p = settled a (record p { turns = begun reading p.turns; place = Turned reading })
+after a (Clock why.Take reading) p = received_at reading p.place p
+after a (Clock why.Give reading) p = answered_at reading p.place p
+after a (Accepted peer peer_kind.Wc) p = asked None p
+after a (Accepted peer peer_kind.Cii) p = happened a (event.Opened peer kind.Cii) (asked None p)
+after a (Accepted peer peer_kind.Ts) p = happened a (event.Opened peer kind.Ts) (asked None p)
 after a NoneCame p = asked None p
 after a (Sent peer bytes) p = record p { place = sent_at p.place }
 after a (Took peer bytes) p = record p { place = Taken peer bytes }

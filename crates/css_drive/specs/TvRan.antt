@@ -5,8 +5,7 @@ use Rattle.css_outside.specs.Outsides.{Counts, with_entries}
 use Rattle.css_drive.specs.Ends.{MayEnd, CountsNetFault}
 use Rattle.css_drive.specs.Proper.{IsProper}
 use Rattle.css_drive.specs.TvDue.{TvRun, due}
-use Rattle.css_drive.specs.TvProgress.{progress_of}
-use Rattle.css_drive.specs.TvTurns.{goes_on}
+use Rattle.css_drive.specs.TvProgress.{progress_of, goes_on}
 use Rattle.css_drive.specs.declared.driven.Driven.{Driven}
 use Rattle.css_drive.specs.declared.driven.Driven.TheVariants as driven
 

@@ -1,27 +1,22 @@
 -- How the values of a television's loop stand for what its calls did so far.
-use Rattle.std.specs.Prelude.{◌≡◌, ◌<◌, ◌+◌, ℕ, List, [], ◌∷◌, ◌++◌, drop, filter, Bool, true, None}
-use Rattle.std.specs.Prelude.{Result, MatchResult}
+use Rattle.std.specs.Prelude.{◌≡◌, ◌<◌, ◌+◌, ℕ, List, [], ◌∷◌, drop, Bool, true, Option, None, Result, MatchResult}
 use Rattle.css_model.specs.declared.Why.{Why}
 use Rattle.css_model.specs.History.{History}
-use Rattle.css_num.specs.declared.protocol.Kind.{Kind}
-use Rattle.css_outside.specs.Outsides.{with_entries, clock_entries}
+use Rattle.css_outside.specs.Outsides.{Counts, with_entries, clock_entries}
 use Rattle.css_sessions.specs.Kept.{talk_of}
 use Rattle.css_tv.specs.Stages.{Television}
 use Rattle.css_tv.specs.Standing.{StandsFor, IsFresh, calls_of}
 use Rattle.css_tv.specs.declared.event.TvOut.{TvOut}
 use Rattle.css_tv.specs.declared.event.TvEvent.{TvEvent}
-use Rattle.css_tv.specs.declared.event.TvEvent.TheVariants as event
 use Rattle.css_schedule.specs.declared.line.ScriptLine.{ScriptLine}
-use Rattle.css_drive.specs.CompanionStanding.{Shown}
+use Rattle.css_drive.specs.CompanionStanding.{Shown, shown}
 use Rattle.css_drive.specs.Proper.{Due, IsProper}
-use Rattle.css_drive.specs.TvProgress.{Place, Turned, Asked, Progress, settled, happened, is_due, open_after}
-use Rattle.css_drive.specs.TvProgress.{addresses_in, progress_of}
-use Rattle.css_drive.specs.TvTurns.{since}
-use Rattle.css_drive.specs.TvDue.{TvRun, due, due_at, from_end, from_hang_ups}
-use Rattle.css_drive.specs.TvPeers.{Knows, Covers, has}
+use Rattle.css_drive.specs.TvProgress.{Place, Turned, Progress, settled, happened, is_due, open_after, addresses_in}
+use Rattle.css_drive.specs.TvProgress.{progress_of, since}
+use Rattle.css_drive.specs.TvDue.{TvRun, due, due_at, from_end, from_hang_ups, above}
 use Rattle.css_drive.specs.TvRan.{AreNumbered, AreBelow, TvRan, CountsTvRun}
 use Rattle.css_drive.specs.declared.driven.Driven.{Driven}
-use Rattle.css_drive.specs.declared.on_air.OnAir.{OnAir}
+use Rattle.css_drive.specs.declared.turns.OnAir.{OnAir}
 use Rattle.css_drive.specs.declared.turns.Turns.{Turns}
 
 -- ---- the history
@@ -83,14 +78,13 @@ progress_at run air place owed events = record {
 abbrev pub live_after : From → List TvEvent → List ℕ
 live_after from events = open_after (addresses_in from.run.config) events
 
--- The television is the one after some events, the loop knows its peers, and the run has come `to` by them.
+-- The television is the one after some events, and the run has come `to` by them.
 pub record Airs (from : From) (now : Shown) (air : OnAir) (to : List TvEvent → Progress) : Type 0 where
   pub events : List TvEvent
   pub h : History
   pub history : Told from now (to events) h
   pub addresses : air.tv.stage.addresses ≡ addresses_in from.run.config
   pub stage : StandsFor air.tv.stage events
-  pub knows : Knows air.peers.items now.counts.peers (live_after from events)
 
 -- The loop is at this place, with nothing owed.
 abbrev pub IsAt : Place → From → Shown → OnAir → Type 0
@@ -101,13 +95,12 @@ abbrev pub Settles : Place → List TvOut → From → Shown → OnAir → Type 
 Settles place owed from now air =
     Airs from now air (λ events. settled (addresses_in from.run.config) (progress_at from.run air place owed events))
 
--- An event was told that the television is still to hear of, and the loop knows its peers after the event.
+-- An event was told that the television is still to hear of.
 pub record Happens (place : Place) (owed : List TvOut) (e : TvEvent) (from : From) (now : Shown) (air : OnAir)
     : Type 0 where
   pub airs : Airs from now air (λ events. let a = addresses_in from.run.config in
       settled a (happened a e (progress_at from.run air place owed events)))
   pub fresh : IsFresh e (calls_of (addresses_in from.run.config) airs.events).sessions
-  pub covers : Covers air.peers.items (live_after from (e ∷ airs.events))
 
 -- The loop is where `to` says of the open sessions what is due.
 pub record Comes (to : OnAir → List ℕ → Due) (from : From) (now : Shown) (air : OnAir) : Type 0 where
@@ -119,9 +112,9 @@ pub record Comes (to : OnAir → List ℕ → Due) (from : From) (now : Shown) (
 abbrev pub at_end : OnAir → List ℕ → Due
 at_end air live = from_end air.turns live
 
--- what is due by the open sessions from a place in the list of peers on: to ask or to hang up the first of them
-abbrev pub left_from : (Turns → List ℕ → List ℕ → Due) → ℕ → OnAir → List ℕ → Due
-left_from f at air live = f air.turns live (filter (λ peer. has peer live) (drop at air.peers.items))
+-- what is due by the open sessions after the last one that was asked or hung up
+abbrev pub still : (Turns → List ℕ → List ℕ → Due) → Option ℕ → OnAir → List ℕ → Due
+still f last air live = f air.turns live (above last live)
 
 abbrev pub hanging_up : Turns → List ℕ → List ℕ → Due
 hanging_up turns live left = from_hang_ups left
@@ -138,29 +131,25 @@ IsTurned from now air = (reading : ℕ) × IsAt (Turned reading) from now air
 
 -- the loop with another television
 abbrev pub with_tv : OnAir → Television → OnAir
-with_tv air tv = record { tv = tv; peers = air.peers; lines = air.lines; turns = air.turns }
-
--- the loop with the peers of another
-abbrev pub with_peers : OnAir → OnAir → OnAir
-with_peers air other = record { tv = air.tv; peers = other.peers; lines = air.lines; turns = air.turns }
+with_tv air tv = record { tv = tv; lines = air.lines; turns = air.turns }
 
 -- the loop with one line more carried out
 abbrev pub past_line : OnAir → OnAir
-past_line air = record { tv = air.tv; peers = air.peers; lines = air.lines + 1; turns = air.turns }
-
--- A session came that the loop is still to keep, and that the television is to hear of.
-pub record Welcomes (peer : ℕ) (kind : Kind) (from : From) (now : Shown) (air : OnAir) : Type 0 where
-  pub p : Progress
-  pub h : History
-  pub history : Told from now p h
-  pub happens : (is : OnAir) → is.peers.items ≡ air.peers.items ++ peer ∷ []
-      → Happens (Asked None) [] (event.Opened peer kind) from now (with_peers air is)
+past_line air = record { tv = air.tv; lines = air.lines + 1; turns = air.turns }
 
 -- ---- parts of the loop
 -- a part leads from where `when` says to where `to` says, or the run ends
-abbrev pub Leads : {T : Type 0} → From → (when to : From → Shown → OnAir → Type 0) → Shown → OnAir → Shown → OnAir
-    → Result T Driven → Type 0
-Leads from when to old was new is result = when from old was → MatchResult result (λ _. to from new is) (Stops from new)
+abbrev pub Leads : {O T : Type 0} → (O → Option History) → (O → Counts) → From
+    → (when to : From → Shown → OnAir → Type 0) → O → OnAir → O → OnAir → Result T Driven → Type 0
+Leads told counts from when to old was new is result =
+    let now = shown (told new) (counts new) in
+    when from (shown (told old) (counts old)) was → MatchResult result (λ _. to from now is) (Stops from now)
+
+-- a part that has the television of the loop alone does so in every run
+abbrev pub Plays : {O T : Type 0} → (O → Option History) → (O → Counts) → (when to : From → Shown → OnAir → Type 0)
+    → O → Television → O → Television → Result T Driven → Type 0
+Plays told counts when to old was new is result =
+    (from : From) (air : OnAir) → Leads told counts from when to old (with_tv air was) new (with_tv air is) result
 
 -- no peer above the greatest has a session
 abbrev pub IsUnused : Shown → Television → Type 0

@@ -1,4 +1,4 @@
-//! Single calls of the outside, which the runs of a companion and of a relay make.
+//! Single calls of the outside, which the runs of a companion, of a relay and of a television make.
 ghost use Rattle.std.specs.Prelude.{◌≡◌, ◌≤◌, ◌∷◌, [], Option, None, IfOk, IfErr};
 ghost use Rattle.css_model.specs.History.{Sent, HungUp};
 ghost use Rattle.css_outside.specs.Faults.{CountsOutFault, HasRisen};

@@ -8,7 +8,7 @@ ghost use Rattle.css_companion.specs.Steps.{IsEvent, IsEntryOf};
 ghost use Rattle.css_drive.specs.CompanionDue.{Point, due_at};
 ghost use Rattle.css_drive.specs.CompanionStanding.{Shown, shown, shown_of, IsEarly, Fails, Calls, HasDialled, HasRead};
 ghost use Rattle.css_drive.specs.CompanionStanding.{IsAt, Knows, LeadsFrom, Stays, final_end};
-ghost use Rattle.css_drive.specs.CompanionStanding.{facts_in, still, without, spoken};
+ghost use Rattle.css_drive.specs.CompanionStanding.{still, without, spoken};
 ghost use Rattle.css_drive.specs.Notes.{Note, Standpoint, Sees, dial_notes, slept_notes};
 ghost use Rattle.css_drive.specs.Proper.{SendText};
 ghost use Rattle.css_drive.specs.declared.config.DriveConfig.{DriveConfig as Config};
@@ -116,7 +116,7 @@ fn still_open(session: Option<u32>, peer: u32) -> Option<u32>
 impl Live {
     /// The session of a peer is over.
     pub fn close(&mut self, peer: u32)
-        ensures { facts_in self.new ≡ without peer (facts_in self.old) }
+        ensures { self.new ≡ without peer self.old }
     {
         self.cii_open = still_open(self.cii_open, peer);
         self.ts_open = still_open(self.ts_open, peer);

@@ -1,13 +1,11 @@
 //! The dials of a turn of a companion, and what the television is told first.
-ghost use Rattle.std.specs.Prelude.{◌≡◌, ◌∷◌, ℕ, OnOk, IfOk, IfErr, IfSome, None, Some};
-ghost use Rattle.css_model.specs.History.{Dialled, History};
-ghost use Rattle.css_model.specs.declared.Kind.TheVariants.{Ts};
+ghost use Rattle.std.specs.Prelude.{◌≡◌, ◌∷◌, ℕ, List, OnOk, IfOk, IfErr, IfSome, None, Some, Ok};
+ghost use Rattle.css_model.specs.History.{Entry, History};
 ghost use Rattle.css_outside.specs.Faults.{HasRisen};
 ghost use Rattle.css_tsmsg.specs.Setups.{setup_text};
-ghost use Rattle.css_tsmsg.specs.Presentations.{IsPresentation};
 ghost use Rattle.css_companion.specs.Standing.{wanted_by};
-ghost use Rattle.css_companion.specs.Steps.{window};
-ghost use Rattle.css_drive.specs.CompanionDue.{from_cii, from_wc, from_ts, from_ask, window_text, Connected, SetUp};
+ghost use Rattle.css_companion.specs.Steps as steps;
+ghost use Rattle.css_drive.specs.CompanionDue.{from_cii, from_wc, from_ts, from_ask, Connected, SetUp};
 ghost use Rattle.css_drive.specs.Configs.{IsWindow};
 ghost use Rattle.css_drive.specs.CompanionStanding.{IsAt, IsDue, Leads, LeadsFrom, Knows, Stays};
 ghost use Rattle.css_drive.specs.declared.config.DriveConfig.{DriveConfig as Config};
@@ -22,31 +20,19 @@ use css_cii::CiiName;
 use css_companion::{Companion, CompanionEvent};
 use css_num::Text;
 use css_outside::{Kind, Outside, Wrote};
-use css_tsmsg::Bound;
 
-/// The text of the presentation of the configuration's bounds.
-fn window_of(companion: &mut Companion, earliest: Bound, latest: Bound) -> Result<Text, Driven>
-    requires { IsPresentation (window earliest latest) }
-    ensures text { IfOk result (λ text. text ≡ window_text (earliest, latest)) }
+/// The text that the companion owes the television after an event.
+fn owed(companion: &mut Companion, event: CompanionEvent) -> Result<Text, Driven>
+    requires { steps.IsEvent event }
+    ensures text { IfOk result (λ text. (told : List ℕ) → steps.owed companion.old event ≡ Ok (Some told)
+        → text ≡ told) }
     ensures err { IfErr result (λ ended. ended ≡ Driven.Memory) }
-    ensures same { companion.new ≡ companion.old }
-{
-    match companion.step(CompanionEvent::Present { earliest, latest }) {
-        Ok(Some(text)) => Ok(text),
-        // It always owes one.
-        _ => Err(Driven::Memory),
-    }
-}
-
-/// The companion is told that its TS session was opened, and owes the setup.
-fn setup_of(companion: &mut Companion) -> Result<Text, Driven>
-    ensures text { IfOk result (λ text. text ≡ setup_text companion.old.setup) }
-    ensures err { IfErr result (λ ended. ended ≡ Driven.Memory) }
-    ensures known { (config : Config) → (history : History) → (peer : ℕ) → Knows config companion.old history
-        → OnOk result (Knows config companion.new (Dialled Ts peer ∷ history)) }
+    ensures known { (config : Config) → (history : History) → (entry : Entry) → Knows config companion.old history
+        → steps.IsEntryOf event entry history → OnOk result (Knows config companion.new (entry ∷ history)) }
+    ensures same { OnOk result (companion.new ≡ steps.stepped companion.old event) }
     ensures client { companion.new.client ≡ companion.old.client }
 {
-    match companion.step(CompanionEvent::TsOpened) {
+    match companion.step(event) {
         Ok(Some(text)) => Ok(text),
         // It always owes one.
         _ => Err(Driven::Memory),
@@ -101,7 +87,7 @@ impl<O: Outside, W: Observes> Run<'_, O, W> {
         let Some((earliest, latest)) = config.present else {
             return Ok(());
         };
-        let text = window_of(self.companion, earliest, latest)?;
+        let text = owed(self.companion, CompanionEvent::Present { earliest, latest })?;
         self.say(peer, text.bytes())?;
         Ok(())
     }
@@ -138,7 +124,7 @@ impl<O: Outside, W: Observes> Run<'_, O, W> {
         };
         self.live.ts = Some(peer);
         self.live.ts_open = Some(peer);
-        let setup = setup_of(self.companion)?;
+        let setup = owed(self.companion, CompanionEvent::TsOpened)?;
         self.introduce(config, peer, &setup)
     }
 }

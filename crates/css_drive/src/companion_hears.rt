@@ -1,14 +1,12 @@
 //! What a turn of a companion asks and hears, and the end of its sessions.
 ghost use Rattle.std.specs.Prelude.{◌≡◌, ◌≤◌, ◌∷◌, ◌⊎◌, ℕ, None, Some, OnOk, IfErr, MatchResult};
-ghost use Rattle.css_model.specs.History as entries;
-ghost use Rattle.css_model.specs.History.{History, Took};
-ghost use Rattle.css_model.specs.declared.Kind.TheVariants as kinds;
+ghost use Rattle.css_model.specs.History.{History, Closed, Took};
 ghost use Rattle.css_model.specs.declared.Why.TheVariants as whys;
 ghost use Rattle.css_companion.specs.Meanings.{kind_of};
-ghost use Rattle.css_drive.specs.CompanionDue.{due, from_ask, from_take, from_cii_text, refusal_of, hang_up};
+ghost use Rattle.css_drive.specs.CompanionDue.{due, from_ask, from_take, from_cii_text, hang_up};
 ghost use Rattle.css_drive.specs.CompanionStanding.{Shown, shown_of, Stands, Knows, Leads, Goes, Stops, Stays, Names};
-ghost use Rattle.css_drive.specs.CompanionStanding.{IsDue, IsEarly, Hangs, IsRefusal, a_reading};
-ghost use Rattle.css_drive.specs.CompanionStanding.{open_of, from_text, after_text};
+ghost use Rattle.css_drive.specs.CompanionStanding.{IsDue, IsEarly, Hangs, TakesIn, a_reading};
+ghost use Rattle.css_drive.specs.CompanionStanding.{kind_for, open_of, from_text, after_text};
 ghost use Rattle.css_drive.specs.Proper.{Due};
 ghost use Rattle.css_drive.specs.declared.config.DriveConfig.{DriveConfig as Config};
 
@@ -25,19 +23,37 @@ use css_companion::{Companion, CompanionEvent};
 use css_num::Text;
 use css_outside::{Heard, Outside, Why};
 
-/// Takes a text of the CII session in.
-fn take_in(companion: &mut Companion, text: Text) -> Result<(), Driven>
+/// Takes a text of a session in.
+fn take_in(companion: &mut Companion, session: Session, text: Text) -> Result<(), Driven>
     ensures told { (config : DriveConfig) → (peer : ℕ) → (history : History)
-        → kind_of peer history ≡ Some kinds.Cii → Knows config companion.old history
-        → MatchResult result
-        (λ _. (refusal_of (Some text) history ≡ None) × Knows config companion.new (entries.Heard peer text ∷ history))
-        (IsRefusal (refusal_of (Some text) history)) }
+        → kind_of peer history ≡ Some (kind_for session) → Knows config companion.old history
+        → TakesIn config session peer text history companion.new result }
     ensures early { IfErr result IsEarly }
     ensures same { companion.new.client ≡ companion.old.client }
 {
-    match companion.step(CompanionEvent::CiiText(text)) {
-        Ok(_) => Ok(()),
-        Err(fault) => Err(refused(fault)),
+    match session {
+        Session::Cii => match companion.step(CompanionEvent::CiiText(text)) {
+            Ok(_) => Ok(()),
+            Err(fault) => Err(refused(fault)),
+        },
+        Session::Ts => match companion.step(CompanionEvent::TsText(text)) {
+            Ok(_) => Ok(()),
+            Err(_) => Err(Driven::Memory),
+        },
+    }
+}
+
+/// Tells the companion that a session is over.
+fn let_go(companion: &mut Companion, session: Session) -> Result<(), Driven>
+    ensures told { (config : DriveConfig) → (peer : ℕ) → (history : History)
+        → kind_of peer history ≡ Some (kind_for session) → Knows config companion.old history
+        → OnOk result (Knows config companion.new (Closed peer ∷ history)) }
+    ensures err { IfErr result (λ ended. ended ≡ Driven.Memory) }
+    ensures same { companion.new.client ≡ companion.old.client }
+{
+    match session {
+        Session::Cii => tell(companion, CompanionEvent::CiiClosed),
+        Session::Ts => tell(companion, CompanionEvent::TsClosed),
     }
 }
 
@@ -142,18 +158,12 @@ impl<O: Outside, W: Observes> Run<'_, O, W> {
             Heard::Quiet => Ok(()),
             Heard::Text(text) => {
                 self.observer.heard(session, &text, self.companion);
-                match session {
-                    Session::Cii => take_in(self.companion, text),
-                    Session::Ts => tell(self.companion, CompanionEvent::TsText(text)),
-                }
+                take_in(self.companion, session, text)
             }
             Heard::Closed => {
                 self.observer.closed(session);
                 self.live.close(peer);
-                match session {
-                    Session::Cii => Ok(()),
-                    Session::Ts => tell(self.companion, CompanionEvent::TsClosed),
-                }
+                let_go(self.companion, session)
             }
         }
     }

@@ -1,6 +1,5 @@
 //! What is proved of every companion's run. Each law is the contract of a function that does nothing.
-ghost use Rattle.css_drive.specs.CompanionLaws.{ReportsAreAsAsked, FollowersHear};
-ghost use Rattle.css_drive.specs.SameEvents.{SameEventsAreReportedAlike};
+ghost use Rattle.css_drive.specs.CompanionLaws.{ReportsAreAsAsked, FollowersHear, SameEventsAreReportedAlike};
 
 /// A run never makes more reports than it is asked for, and it ends as `Done` with exactly as many.
 pub fn reports_are_as_asked()

@@ -1,7 +1,4 @@
 //! A companion's run, as far as it has come.
-ghost use Rattle.std.specs.Prelude.{◌<◌};
-ghost use Rattle.std.specs.Option.{ForSome};
-
 use css_companion::Companion;
 use std::alloc::Global;
 
@@ -25,9 +22,6 @@ pub struct Live {
     /// The peers of the sessions that are open.
     pub cii_open: Option<u32>,
     pub ts_open: Option<u32>,
-    pub ghost first_below: { ForSome first (λ reading. reading < 4294967296000000000) },
-    pub ghost asked_below: { ForSome asked (λ reading. reading < 4294967296000000000) },
-    pub ghost turn_below: { ForSome turn (λ reading. reading < 4294967296000000000) },
 }
 
 /// A companion's run: what it is made of, and how far it has come.

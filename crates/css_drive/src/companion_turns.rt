@@ -1,14 +1,13 @@
 //! The turns of a companion's run.
 ghost use Rattle.std.specs.Prelude.{◌≡◌, ◌≤◌, ◌<◌, ◌+◌, ℕ, [], IfSome, OnOk, IfErr, None};
-ghost use Rattle.std.specs.Option.{ForSome};
 ghost use Rattle.css_model.specs.declared.Why.TheVariants as whys;
 ghost use Rattle.css_outside.specs.Faults.{HasRisen};
 ghost use Rattle.css_drive.specs.Configs.{IsWindow};
 ghost use Rattle.css_drive.specs.CompanionDue.{from_turn, from_cii, from_end};
 ghost use Rattle.css_drive.specs.CompanionReports.{is_due};
 ghost use Rattle.css_drive.specs.CompanionStanding.{Knows, a_reading, Leads, Names};
-ghost use Rattle.css_drive.specs.CompanionStanding.{Stays, IsEarly, Made, HasTried, ending_of, facts_in, facts_of};
-ghost use Rattle.css_drive.specs.CompanionStanding.{is_another};
+ghost use Rattle.css_drive.specs.CompanionStanding.{Stays, IsEarly, Made, HasTried, ending_of, facts_of};
+ghost use Rattle.css_drive.specs.CompanionStanding as standing;
 ghost use Rattle.css_drive.specs.Ends.{CountsNetFault, CountsDialFaults};
 
 use crate::companion_calls::ended_by;
@@ -25,25 +24,31 @@ use std::alloc::Global;
 fn reports_at(every: u64, reading: u64, first: Option<u64>, reported: u64) -> bool
     requires few { every ≤ 1000000000000 }
     requires some { reported < 1000000 }
-    requires below { ForSome first (λ r. r < 4294967296000000000) }
     ensures { result ≡ is_due every reading first reported }
 {
     match first {
         None => false,
-        Some(first) => first + (reported + 1) * every <= reading,
+        Some(first) => first <= reading && (reported + 1) * every <= reading - first,
     }
 }
 
 /// Whether another turn follows.
 fn goes_again(live: &Live, config: &DriveConfig) -> bool
-    ensures { result ≡ is_another config.now (facts_in live.now) }
+    ensures { result ≡ standing.is_another config.now live.now }
 {
     live.reported < config.reports && goes_on(config.limit, live.first, live.turn, live.made)
 }
 
+/// Whether the calls of a turn follow its report.
+fn is_calling(live: &Live, config: &DriveConfig) -> bool
+    ensures { result ≡ standing.is_calling config.now live.now }
+{
+    live.reported < config.reports && !is_late(config.limit, live.first, live.turn)
+}
+
 /// How a run ends that makes no turn any more, where so many reports were asked for.
 pub fn ending(live: &Live, reports: u64) -> Driven
-    ensures { result ≡ ending_of reports (facts_in live.now) }
+    ensures { result ≡ ending_of reports live.now }
 {
     let turns = live.made;
     if live.reported >= reports {
@@ -132,13 +137,10 @@ impl<O: Outside, W: Observes> Run<'_, O, W> {
             → OnOk result (HasTried config.now started (O.counts self.new.outside.now).dial_faults self.new.live) }
     {
         self.start(config)?;
-        if self.live.reported >= config.reports {
-            return Ok(());
+        if is_calling(&self.live, config) {
+            return self.calls(config);
         }
-        if is_late(config.limit, self.live.first, self.live.turn) {
-            return Ok(());
-        }
-        self.calls(config)
+        Ok(())
     }
 
     /// Makes the turns, and hangs up. The observer has the last word.
@@ -147,7 +149,7 @@ impl<O: Outside, W: Observes> Run<'_, O, W> {
         requires floor { self.old.companion.now.client.floor ≤ (O.counts self.old.outside.now).last }
         requires bounds { IfSome config.now.present IsWindow }
         requires begun { W.saw self.old.observer.now self.old.observer.now [] }
-        requires fresh { facts_of config.now [] ≡ facts_in self.old.live }
+        requires fresh { facts_of config.now [] ≡ self.old.live }
         ensures names { Names self.old self.new }
         ensures made { Made config.now (O.told self.old.outside.now) (O.told self.new.outside.now)
             (W.saw self.old.observer.now self.new.observer.now) (W.over self.new.observer.now) result }

@@ -14,7 +14,6 @@ mod companion_turns;
 mod config;
 mod driven;
 mod observes;
-mod on_air;
 mod session;
 mod telling;
 pub mod timing;

@@ -1,13 +1,11 @@
 //! The observer that writes a run's reports, with what its followers say of them.
-ghost use Rattle.std.specs.Prelude.{ℕ, List, Option, MatchResult};
-ghost use Rattle.css_drive.specs.Telling.{CountsOver, HasSaid, Tells, Writes, audience};
-ghost use Rattle.css_drive.specs.CompanionRun.{HearFirst};
+ghost use Rattle.css_drive.specs.Telling.{CountsOver, Tells, Writes, audience};
 
 use crate::observes::Observes;
 use crate::session::Session;
 use css_companion::{Companion, Report, line};
 use css_follow::Listens;
-use css_num::{Memory, Text};
+use css_num::Text;
 use css_outside::{Clocked, Kind, OutFault, Sink, write_all};
 use std::alloc::Global;
 
@@ -19,22 +17,6 @@ pub(crate) struct Telling<'a, K: Sink, F: Listens> {
     pub(crate) followers: &'a mut F,
     /// Why no report is written any more, if none is.
     pub(crate) over: Option<OutFault>,
-}
-
-/// The text of a report: its line, and after it what the followers say of it.
-fn text_of<F: Listens>(
-    alloc: Global,
-    number: u64,
-    report: &Report,
-    followers: &mut F,
-) -> Result<Text, Memory>
-    ensures told { MatchResult result
-        (HasSaid number report.now (F.heard followers.old) (F.heard followers.new))
-        (λ _. (words : List ℕ) × HearFirst report.now (F.heard followers.old) (F.heard followers.new) words) }
-{
-    let mut text = line(alloc, number, report, None)?;
-    followers.tell(report, &mut text)?;
-    Ok(text)
 }
 
 /// Writes a report's line, and after it what the followers say of it, at once. Says why not, if it fails.
@@ -49,10 +31,13 @@ fn tell_report<K: Sink, F: Listens>(
         (audience (K.holds sink.new) (F.heard followers.new)) number report.now }
     ensures counted { CountsOver result (K.faults sink.old) (K.faults sink.new) }
 {
-    match text_of(alloc, number, report, followers) {
-        Err(Memory) => Some(OutFault::Memory),
-        Ok(text) => write_all(sink, text.bytes()).err(),
-    }
+    let Ok(mut text) = line(alloc, number, report, None) else {
+        return Some(OutFault::Memory);
+    };
+    let Ok(()) = followers.tell(report, &mut text) else {
+        return Some(OutFault::Memory);
+    };
+    write_all(sink, text.bytes()).err()
 }
 
 impl<K: Sink, F: Listens> Observes for Telling<'_, K, F> {

@@ -1,9 +1,19 @@
 ghost use Rattle.std.specs.Prelude.{◌≡◌, ◌<◌, true};
-ghost use Rattle.css_drive.specs.TvTurns.{IsRanged};
-ghost use Rattle.css_drive.specs.TvTurns as spec;
+ghost use Rattle.css_drive.specs.TvProgress.{IsRanged};
+ghost use Rattle.css_drive.specs.TvProgress as spec;
 
 use css_model::LIMIT;
 use css_outside::Limit;
+use css_tv::Tv;
+
+/// What a television's run keeps from call to call.
+#[derive(Drop)]
+pub(crate) struct OnAir {
+    pub(crate) tv: Tv,
+    /// How many lines of the script were carried out.
+    pub(crate) lines: usize,
+    pub(crate) turns: Turns,
+}
 
 /// The turns of a television's run.
 #[derive(Clone, Copy)]

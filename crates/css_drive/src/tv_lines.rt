@@ -1,20 +1,19 @@
-ghost use Rattle.std.specs.Prelude.{◌≡◌, ◌<◌, [], All, IfOk, IfSome};
+ghost use Rattle.std.specs.Prelude.{◌≡◌, ◌<◌, [], true, All, IfOk, OnOk, IfSome};
 ghost use Rattle.css_schedule.specs.Ranges.{IsVerb, IsScriptLine};
 ghost use Rattle.css_tv.specs.Stages.{Stage};
 ghost use Rattle.css_tv.specs.Standing.{IsEvent};
-ghost use Rattle.css_drive.specs.CompanionStanding.{shown};
-ghost use Rattle.css_drive.specs.TvProgress.{Turned};
-ghost use Rattle.css_drive.specs.TvTurns.{IsRanged};
+ghost use Rattle.css_drive.specs.TvProgress.{IsRanged, IsOneMore, Turned, goes_on};
 ghost use Rattle.css_drive.specs.TvProgress as spec;
-ghost use Rattle.css_drive.specs.TvStanding.{From, Carries, Settles, Leads, IsTurned, with_tv, past_line};
-ghost use Rattle.css_drive.specs.declared.on_air.OnAir.{OnAir as Loop};
+ghost use Rattle.css_drive.specs.TvStanding.{From, Carries, Comes, Settles, Leads, IsTurned, at_end, with_tv};
+ghost use Rattle.css_drive.specs.TvStanding.{past_line};
+ghost use Rattle.css_drive.specs.declared.turns.OnAir.{OnAir as Loop};
 
 use crate::driven::Driven;
-use crate::on_air::OnAir;
-use crate::tv_calls::put_all;
+use crate::turns::OnAir;
+use crate::tv_calls::{put_all, read};
 use css_model::LIMIT;
 use css_num::Memory;
-use css_outside::Outside;
+use css_outside::{Outside, Why};
 use css_schedule::{LineWhy, ScriptLine, Verb};
 use css_tv::{Tv, TvEvent, TvFault};
 use std::alloc::Global;
@@ -60,9 +59,8 @@ fn carry_out<O: Outside>(
     requires reading { reading < LIMIT }
     requires before { before < 18446744073709551615 }
     ensures { (from : From) (air : Loop) → air.lines ≡ before
-        → Leads from (Carries reading line.now) (Settles (Turned reading) [])
-        (shown (O.told outside.old) (O.counts outside.old)) (with_tv air tv.old)
-        (shown (O.told outside.new) (O.counts outside.new)) (past_line (with_tv air tv.new)) result }
+        → Leads O.told O.counts from (Carries reading line.now) (Settles (Turned reading) [])
+        outside.old (with_tv air tv.old) outside.new (past_line (with_tv air tv.new)) result }
 {
     let event = match event_of(&line.verb, reading) {
         Ok(Some(event)) => event,
@@ -80,23 +78,23 @@ fn carry_out<O: Outside>(
     }
 }
 
-/// Carries out the lines of the script that are due at a turn's reading.
-pub(crate) fn carry_lines<O: Outside>(
+/// Begins a turn: its reading, and the lines of the script that are due.
+pub(crate) fn begin<O: Outside>(
     alloc: Global,
     air: &mut OnAir,
     outside: &mut O,
     script: &[ScriptLine],
-    reading: u64,
 ) -> Result<(), Driven>
     requires script { All IsScriptLine script.now }
-    requires reading { reading < LIMIT }
     requires ranged { IsRanged air.old.turns }
+    requires more { goes_on air.old.turns ≡ true }
     ensures goes { (from : From) → from.run.script ≡ script.now
-        → Leads from (Settles (Turned reading) []) IsTurned
-        (shown (O.told outside.old) (O.counts outside.old)) air.old
-        (shown (O.told outside.new) (O.counts outside.new)) air.new result }
-    ensures turns { air.new.turns ≡ air.old.turns }
+        → Leads O.told O.counts from (Comes at_end) IsTurned
+        outside.old air.old outside.new air.new result }
+    ensures turns { OnOk result (IsOneMore air.old.turns air.new.turns) }
 {
+    let reading = read(outside, Why::Turn)?;
+    air.turns.begin(reading);
     let from = air.turns.since();
     'lines: while air.lines < script.len() {
         let line = &script[air.lines];

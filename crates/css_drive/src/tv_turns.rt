@@ -5,41 +5,20 @@ ghost use Rattle.css_outside.specs.Limits.{IsLimit};
 ghost use Rattle.css_schedule.specs.Ranges.{IsScriptLine};
 ghost use Rattle.css_drive.specs.CompanionStanding.{shown};
 ghost use Rattle.css_drive.specs.TvDue.{run_of};
-ghost use Rattle.css_drive.specs.TvTurns.{IsRanged, IsOneMore, goes_on};
+ghost use Rattle.css_drive.specs.TvProgress.{IsRanged, IsOneMore, goes_on};
 ghost use Rattle.css_drive.specs.TvRan.{TvRan, CountsTvRun};
-ghost use Rattle.css_drive.specs.TvStanding.{From, Stops, Comes, Leads, IsTurned, IsReady, at_end};
+ghost use Rattle.css_drive.specs.TvStanding.{From, Stops, Comes, Leads, IsReady, at_end};
 
+use crate::calls::end_of;
 use crate::driven::Driven;
-use crate::on_air::OnAir;
-use crate::turns::Turns;
-use crate::tv_calls::{fault_of, hang_up_all, hear_all, read, serve, welcome};
+use crate::turns::{OnAir, Turns};
+use crate::tv_calls::{hang_up_all, hear_all, serve, welcome};
 use crate::tv_config::TvDrive;
-use crate::tv_lines::carry_lines;
-use css_outside::{Outside, Why};
+use crate::tv_lines::begin;
+use css_outside::Outside;
 use css_schedule::ScriptLine;
 use css_tv::Tv;
 use std::alloc::Global;
-
-/// Begins a turn: its reading, and the lines of the script that are due.
-fn begin<O: Outside>(
-    alloc: Global,
-    air: &mut OnAir,
-    outside: &mut O,
-    script: &[ScriptLine],
-) -> Result<(), Driven>
-    requires script { All IsScriptLine script.now }
-    requires ranged { IsRanged air.old.turns }
-    requires more { goes_on air.old.turns ≡ true }
-    ensures goes { (from : From) → from.run.script ≡ script.now
-        → Leads from (Comes at_end) IsTurned
-        (shown (O.told outside.old) (O.counts outside.old)) air.old
-        (shown (O.told outside.new) (O.counts outside.new)) air.new result }
-    ensures turns { OnOk result (IsOneMore air.old.turns air.new.turns) }
-{
-    let reading = read(outside, Why::Turn)?;
-    air.turns.begin(reading);
-    carry_lines(alloc, air, outside, script, reading)
-}
 
 /// Makes a turn. One that is the last by its time has no calls after those of its lines.
 fn turn<O: Outside>(
@@ -53,9 +32,8 @@ fn turn<O: Outside>(
     requires more { goes_on air.old.turns ≡ true }
     requires ready { IsReady (shown (O.told outside.old) (O.counts outside.old)) air.old script.now }
     ensures goes { (from : From) → from.run.script ≡ script.now
-        → Leads from (Comes at_end) (Comes at_end)
-        (shown (O.told outside.old) (O.counts outside.old)) air.old
-        (shown (O.told outside.new) (O.counts outside.new)) air.new result }
+        → Leads O.told O.counts from (Comes at_end) (Comes at_end)
+        outside.old air.old outside.new air.new result }
     ensures turns { OnOk result (IsOneMore air.old.turns air.new.turns) }
 {
     begin(alloc, air, outside, script)?;
@@ -63,8 +41,8 @@ fn turn<O: Outside>(
         return Ok(());
     }
     serve(&mut air.tv, outside)?;
-    welcome(alloc, air, outside)?;
-    hear_all(alloc, air, outside)
+    welcome(alloc, &mut air.tv, outside)?;
+    hear_all(alloc, &mut air.tv, outside)
 }
 
 /// Makes the turns, and then hangs up the open sessions.
@@ -87,7 +65,7 @@ fn make_turns<O: Outside>(
             Err(ended) => return ended,
         }
     }
-    hang_up_all(air, outside)
+    hang_up_all(&air.tv, outside)
 }
 
 /// Makes a television's run: it listens, makes turns up to its limit, and hangs up the sessions that are open then.
@@ -114,13 +92,12 @@ pub fn drive_tv<O: Outside>(
     let turns = Turns::new(run.limit, run.relative);
     match outside.listen(&run.tv.host, run.tv.port) {
         Ok(()) => {}
-        Err(fault) => return fault_of(fault),
+        Err(fault) => return end_of(fault),
     }
     let mut air = match Tv::new(alloc, run.tv) {
         Err(_) => return Driven::Memory,
         Ok(tv) => OnAir {
             tv,
-            peers: Vec::new(alloc),
             lines: 0,
             turns,
         },

@@ -2,7 +2,7 @@
 -- done made all its turns.
 use Rattle.std.proofs.Common.{◌≡◌, ℕ, ◌<◌, Bool, true, false, List, [], ◌∷◌, ◌++◌, Option, Some, None, refl, sym, subst}
 use Rattle.std.proofs.Common.{arith, inl, inr, ◌+◌, ◌≤◌, ap, ◌∙◌}
-use Rattle.std.specs.Prelude.{◌||◌, ◌&&◌, ◌⊎◌, nat_lt, not, is_some, ⊤, Result, Ok, Err, unwrap_or}
+use Rattle.std.specs.Prelude.{◌||◌, ◌&&◌, ◌⊎◌, nat_lt, not, is_some, ⊤, Result, Ok, Err, unwrap_or, length}
 use Rattle.std.proofs.lemmas.Bool.{and_parts, cond_both}
 use Rattle.std.proofs.lemmas.Bool.Decides.{nat_tests}
 use Rattle.css_address.specs.declared.fault.AddressFault.{AddressFault}
@@ -12,6 +12,7 @@ use Rattle.css_drive.specs.CompanionTurns.{is_late, goes_on, is_asking, turns, f
 use Rattle.css_drive.specs.Proper.{Due, Listen, Now, Dial, Accept, SendDatagram, TakeDatagram, TakeText, SendText}
 use Rattle.css_drive.specs.Proper.{HangUp, Ends, MayAdd, Empty, More}
 use Rattle.css_model.specs.declared.Kind.{Kind}
+use Rattle.css_model.specs.declared.Message.{Message}
 use Rattle.css_model.specs.declared.Why.{Why}
 use Rattle.css_model.specs.History.{Entry, History, Address, Each, Slept, Clock, Dialling, Dialled, NotDialled}
 use Rattle.css_model.specs.History.{Accepted, NoneCame, Sent, Took, TookNone, Quiet, Heard, Closed, Wrote, Gone, HungUp}
@@ -268,19 +269,27 @@ module _ (P : Place → Type 0) where
   on_begun run f last first =
       cond_both (is_late run.limit f.first f.turn) (Asked []) Begun P (λ e. last) (λ e. first)
 
-  pub on_received : (run : RelayRun) (reading : ℕ) (older : History) (place : Place) → IsTaken place → P Served
-      → ((peer : ℕ) (ticket : Ticket) → P (Received peer ticket)) → P (places.received_at run reading older place)
-  on_received run reading older (Taken peer bytes) is served received =
-      elim (received_after run.companion.local older reading bytes) as (λ x. P (places.received peer x))
-      [ Ok ticket ↦ received peer ticket | Err bad ↦ served ]
-  on_received run reading older place is served received = absurd is
+  pub on_received : (run : RelayRun) (reading : ℕ) (older : History) (place : Place)
+      → ((IsTaken place → ⊥) → P place) → P Served
+      → ((peer : ℕ) (bytes : List ℕ) (ticket : Ticket)
+      → received_after run.companion.local older reading bytes ≡ Ok ticket → P (Received peer ticket))
+      → P (places.received_at run reading older place)
+  on_received run reading older (Taken peer bytes) other served received =
+      (elim (received_after run.companion.local older reading bytes)
+      as (λ x. received_after run.companion.local older reading bytes ≡ x → P (places.received peer x))
+      [ Ok ticket ↦ received peer bytes ticket | Err bad ↦ λ e. served ]) refl
+  on_received run reading older place other served received = other (λ is. is)
 
-  pub on_answered : (run : RelayRun) (reading : ℕ) (older : History) (place : Place) → IsReceived place → P Served
-      → ((peer : ℕ) (bytes : List ℕ) → P (Answers peer bytes)) → P (places.answered_at run reading older place)
-  on_answered run reading older (Received peer ticket) is served answers =
-      elim (datagram_of (answered_after run.companion.local older reading ticket)) as (λ x. P (places.answering peer x))
-      [ Ok bytes ↦ answers peer bytes | Err bad ↦ served ]
-  on_answered run reading older place is served answers = absurd is
+  pub on_answered : (run : RelayRun) (reading : ℕ) (older : History) (place : Place)
+      → ((IsReceived place → ⊥) → P place) → P Served
+      → ((peer : ℕ) (ticket : Ticket) (message : Message) → place ≡ Received peer ticket
+      → answered_after run.companion.local older reading ticket ≡ Ok message → P (Answers peer (encoded message)))
+      → P (places.answered_at run reading older place)
+  on_answered run reading older (Received peer ticket) other served answers =
+      (elim (answered_after run.companion.local older reading ticket)
+      as (λ x. answered_after run.companion.local older reading ticket ≡ x → P (places.answering peer (datagram_of x)))
+      [ Ok message ↦ answers peer ticket message refl | Err bad ↦ λ e. served ]) refl
+  on_answered run reading older place other served answers = other (λ is. is)
 
   pub on_hung_up : (place : Place) (f : Facts) → P (next_asked f.television f.peers)
       → ((left : List ℕ) → P (Asked left)) → ((left : List ℕ) → P (Over left)) → P (places.hung_up place f)
@@ -301,15 +310,21 @@ rest_telling_if : (text : Option (List ℕ)) (f : Facts) → IsRest (telling_if 
 rest_telling_if None f = tt
 rest_telling_if (Some text) f = rest_telling text f.peers f
 
+-- how many turns were begun, and the readings of the first and the last one
+abbrev pub Turns : Type 0
+Turns = ℕ × Option ℕ × Option ℕ
+
+abbrev pub begun : Facts → Turns
+begun f = (f.turns, f.first, f.turn)
+
 -- These facts count the same turns and dials, and the place is the same or one where a turn goes on.
 abbrev pub Moves : Facts → Place → Progress → Type 0
 Moves f place q =
-    (q.facts.turns ≡ f.turns) × (q.facts.first ≡ f.first) × (q.facts.turn ≡ f.turn) × (reached q.facts ≡ reached f)
-    × ((q.place ≡ place) ⊎ IsRest q.place)
+    (begun q.facts ≡ begun f) × (reached q.facts ≡ reached f) × ((q.place ≡ place) ⊎ IsRest q.place)
 
 pub rest_moved : (f : Facts) (place : Place) (q : Progress) → Moves f place q → IsRest place → IsRest q.place
 rest_moved f place q m rest =
-    elim m.4 as (λ _. IsRest q.place) [ inl same ↦ subst (λ (x : Place). IsRest x) (sym same) rest | inr at ↦ at ]
+    elim m.2 as (λ _. IsRest q.place) [ inl same ↦ subst (λ (x : Place). IsRest x) (sym same) rest | inr at ↦ at ]
 
 pub rest_sent : (place : Place) (f : Facts) → IsRest (places.sent place f).place
 rest_sent (Asking reading) f = tt
@@ -324,64 +339,44 @@ IsMove (Took peer bytes) = ⊥
 IsMove (HungUp peer) = ⊥
 IsMove _ = ⊤
 
-module _ (run : RelayRun) (f : Facts) where
-  moves_opened : (place : Place) (kept : Bool) (peer : ℕ) → Moves f place (places.opened_if kept peer f)
-  moves_opened place true peer = (refl, refl, refl, refl, inr tt)
-  moves_opened place false peer = (refl, refl, refl, refl, inr tt)
-
-  moves_sent : (place : Place) → Moves f place (places.sent place f)
-  moves_sent (Asking reading) = (refl, refl, refl, refl, inr tt)
-  moves_sent place = (refl, refl, refl, refl, inr tt)
-
-  moves_passed : (place : Place) → Moves f place (record { facts = f; place = places.passed place f })
-  moves_passed (Welcomed peer) = (refl, refl, refl, refl, inr tt)
-  moves_passed (Asked left) = (refl, refl, refl, refl, inr tt)
-  moves_passed place = (refl, refl, refl, refl, inl refl)
-
-  moves_closed : (peer : ℕ) (place : Place) → Moves f place (places.closed peer place f)
-  moves_closed peer (Welcomed p) = (refl, refl, refl, refl, inr tt)
-  moves_closed peer (Asked left) = (refl, refl, refl, refl, inr tt)
-  moves_closed peer place = (refl, refl, refl, refl, inl refl)
-
-  moves_told : (place : Place) → Moves f place (record { facts = f; place = places.told place f })
-  moves_told (Greeting peer) = (refl, refl, refl, refl, inr (rest_next f.television f.peers))
-  moves_told (Telling text left) = (refl, refl, refl, refl, inr (rest_telling text (places.without_first left) f))
-  moves_told place = (refl, refl, refl, refl, inl refl)
-
-  moves_gone : (peer : ℕ) (place : Place) → Moves f place (places.gone peer place f)
-  moves_gone peer (Greeting p) = (refl, refl, refl, refl, inr (rest_next f.television (places.lost peer f).peers))
-  moves_gone peer (Telling text left) =
-      (refl, refl, refl, refl, inr (rest_telling text (places.without_first left) (places.lost peer f)))
-  moves_gone peer place = (refl, refl, refl, refl, inl refl)
-
-  moves_heard : (peer : ℕ) (bytes : List ℕ) (older : History) (place : Place)
-      → Moves f place (places.heard run peer bytes older place f)
-  moves_heard peer bytes older (Welcomed p) =
-      let state : State = relayed run (Heard peer bytes ∷ older) in
-      let rest = rest_telling_if (difference_text f.state state) (record f { state = state }) in
-      elim (refusal_of (Some bytes) older) as (λ x. Moves f (Welcomed p) (places.television_told x state f))
-      [ None ↦ (refl, refl, refl, refl, inr rest) | Some bad ↦ (refl, refl, refl, refl, inr tt) ]
-  moves_heard peer bytes older (Asked left) = (refl, refl, refl, refl, inr tt)
-  moves_heard peer bytes older place = (refl, refl, refl, refl, inl refl)
-
-pub moves : (run : RelayRun) (older : History) (entry : Entry) → IsMove entry → (p : Progress)
-    → Moves p.facts p.place (places.after run entry older p)
-moves run older (Accepted peer k) is p = moves_opened run p.facts p.place _ peer
-moves run older (Sent peer bytes) is p = moves_sent run p.facts p.place
-moves run older (Quiet peer) is p = moves_passed run p.facts p.place
-moves run older (Heard peer bytes) is p = moves_heard run p.facts peer bytes older p.place
-moves run older (Closed peer) is p = moves_closed run p.facts peer p.place
-moves run older (Wrote peer bytes) is p = moves_told run p.facts p.place
-moves run older (Gone peer) is p = moves_gone run p.facts peer p.place
-moves run older (Clock why.Land reading) is p = (refl, refl, refl, refl, inr tt)
-moves run older (Clock w reading) is p = absurd is
-moves run older (Dialled k peer) is p = absurd is
-moves run older (Took peer bytes) is p = absurd is
-moves run older (HungUp peer) is p = absurd is
-moves run older Slept is p = (refl, refl, refl, refl, inl refl)
-moves run older (Dialling k to) is p = (refl, refl, refl, refl, inl refl)
-moves run older NoneCame is p = (refl, refl, refl, refl, inr (rest_next p.facts.television p.facts.peers))
-moves run older _ is p = (refl, refl, refl, refl, inr tt)
+pub moves : (run : RelayRun) (older : History) (entry : Entry) → IsMove entry → (f : Facts) (place : Place)
+    → Moves f place (places.after run entry older (record { facts = f; place = place }))
+moves run older (Accepted peer k) is f place =
+    elim (places.is_kept k (length f.peers)) as (λ kept. Moves f place (places.opened_if kept peer f))
+    [ true ↦ (refl, refl, inr tt) | false ↦ (refl, refl, inr tt) ]
+moves run older (Sent peer bytes) is f (Asking reading) = (refl, refl, inr tt)
+moves run older (Sent peer bytes) is f place = (refl, refl, inr tt)
+moves run older (Quiet peer) is f (Welcomed p) = (refl, refl, inr tt)
+moves run older (Quiet peer) is f (Asked left) = (refl, refl, inr tt)
+moves run older (Quiet peer) is f place = (refl, refl, inl refl)
+moves run older (Heard peer bytes) is f (Welcomed p) =
+    let state : State = relayed run (Heard peer bytes ∷ older) in
+    let rest = rest_telling_if (difference_text f.state state) (record f { state = state }) in
+    elim (refusal_of (Some bytes) older) as (λ x. Moves f (Welcomed p) (places.television_told x state f))
+    [ None ↦ (refl, refl, inr rest) | Some bad ↦ (refl, refl, inr tt) ]
+moves run older (Heard peer bytes) is f (Asked left) = (refl, refl, inr tt)
+moves run older (Heard peer bytes) is f place = (refl, refl, inl refl)
+moves run older (Closed peer) is f (Welcomed p) = (refl, refl, inr tt)
+moves run older (Closed peer) is f (Asked left) = (refl, refl, inr tt)
+moves run older (Closed peer) is f place = (refl, refl, inl refl)
+moves run older (Wrote peer bytes) is f (Greeting p) = (refl, refl, inr (rest_next f.television f.peers))
+moves run older (Wrote peer bytes) is f (Telling text left) =
+    (refl, refl, inr (rest_telling text (places.without_first left) f))
+moves run older (Wrote peer bytes) is f place = (refl, refl, inl refl)
+moves run older (Gone peer) is f (Greeting p) =
+    (refl, refl, inr (rest_next f.television (places.lost peer f).peers))
+moves run older (Gone peer) is f (Telling text left) =
+    (refl, refl, inr (rest_telling text (places.without_first left) (places.lost peer f)))
+moves run older (Gone peer) is f place = (refl, refl, inl refl)
+moves run older (Clock why.Land reading) is f place = (refl, refl, inr tt)
+moves run older (Clock w reading) is f place = absurd is
+moves run older (Dialled k peer) is f place = absurd is
+moves run older (Took peer bytes) is f place = absurd is
+moves run older (HungUp peer) is f place = absurd is
+moves run older Slept is f place = (refl, refl, inl refl)
+moves run older (Dialling k to) is f place = (refl, refl, inl refl)
+moves run older NoneCame is f place = (refl, refl, inr (rest_next f.television f.peers))
+moves run older _ is f place = (refl, refl, inr tt)
 
 -- ---- places at which the turns aren't over
 over_rest : (place : Place) → IsRest place → IsOver place → ⊥
@@ -389,13 +384,6 @@ over_rest (Over left) rest e = rest
 over_rest place rest e = e
 
 -- ---- what stands as the run goes on
--- how many turns were begun, and the readings of the first and the last one
-abbrev pub Turns : Type 0
-Turns = ℕ × Option ℕ × Option ℕ
-
-abbrev pub begun : Facts → Turns
-begun f = (f.turns, f.first, f.turn)
-
 abbrev pub made_of : History → Turns
 made_of h = (turns h, first_turn h, this_turn h)
 
@@ -422,17 +410,15 @@ module _ (run : RelayRun) (older : History) (t : Good run older) where
   stays : (entry : Entry) → made_of (entry ∷ older) ≡ made_of older → any_dialled (entry ∷ older) ≡ any_dialled older
       → (q : Progress) → Moves p.facts p.place q → Counts run (entry ∷ older) q
   stays entry same dials q m = record {
-    turns = let first = m.0 in let second = m.1 in let third = m.2 in cc (t.turns, same);
-    few = let same = m.0 in let few = t.few in omega (arith, same, few);
-    over = λ e. elim m.4 as (λ _. IsMade run q.facts) [
-      | inl same ↦ made (t.over (subst (λ (x : Place). IsOver x) same e))
+    turns = m.0 ∙ t.turns ∙ sym same;
+    few = subst (λ (x : Turns). x.0 ≤ most_turns run.limit) (sym m.0) t.few;
+    over = λ e. elim m.2 as (λ _. IsMade run q.facts) [
+      | inl same ↦ subst (λ (x : Turns). goes_on run.limit x.1 x.2 x.0 ≡ false) (sym m.0)
+          (t.over (subst (λ (x : Place). IsOver x) same e))
       | inr rest ↦ absurd (over_rest q.place rest e)
     ];
-    dialled = m.3 ∙ t.dialled ∙ sym dials;
+    dialled = m.1 ∙ t.dialled ∙ sym dials;
   }
-    where
-      made : IsMade run p.facts → IsMade run q.facts
-      made e = let first = m.0 in let second = m.1 in let third = m.2 in cc
 
   hung_up : (place : Place) → (IsOver place → IsMade run p.facts) → IsDropped place ⊎ HasEnded run p.facts place
       → IsOver (places.hung_up place p.facts) → IsMade run p.facts
@@ -456,14 +442,16 @@ module _ (run : RelayRun) (older : History) (t : Good run older) where
     turns = t.turns;
     few = t.few;
     over =
-        λ e. absurd (on_received (λ place. IsOver place → ⊥) run reading older p.place c.2 (λ e. e) (λ q t e. e) e);
+        λ e. absurd (on_received (λ place. IsOver place → ⊥) run reading older p.place (λ never. absurd (never c.2))
+        (λ e. e) (λ q b t is e. e) e);
     dialled = t.dialled;
   }
   after (Clock why.Give reading) c = record {
     turns = t.turns;
     few = t.few;
     over =
-        λ e. absurd (on_answered (λ place. IsOver place → ⊥) run reading older p.place c.2 (λ e. e) (λ q b e. e) e);
+        λ e. absurd (on_answered (λ place. IsOver place → ⊥) run reading older p.place (λ never. absurd (never c.2))
+        (λ e. e) (λ q t m at is e. e) e);
     dialled = t.dialled;
   }
   after (Dialled kind.Cii peer) c = record { turns = t.turns; few = t.few; over = λ e. absurd e; dialled = refl }
@@ -473,7 +461,7 @@ module _ (run : RelayRun) (older : History) (t : Good run older) where
   after (Took peer bytes) c = record { turns = t.turns; few = t.few; over = λ e. absurd e; dialled = t.dialled }
   after (HungUp peer) c =
       record { turns = t.turns; few = t.few; over = hung_up p.place t.over c.1; dialled = t.dialled }
-  after entry c = stays entry refl refl (progress_of run (entry ∷ older)) (moves run older entry tt p)
+  after entry c = stays entry refl refl (progress_of run (entry ∷ older)) (moves run older entry tt p.facts p.place)
 
 all_good : (run : RelayRun) (h : History) → Followed run h → Good run h
 all_good run [] each = record { turns = refl; few = omega arith; over = λ e. absurd e; dialled = refl }

@@ -33,11 +33,12 @@ use Rattle.css_relay.specs.declared.fault.RelayFault.{RelayFault}
 use Rattle.std.specs.Result.{result_ok}
 use Rattle.css_relay.proofs.Exponents.{exponents_are_least}
 use Rattle.css_relay.proofs.Readings.{same_ok}
-use Rattle.css_drive_relay.specs.Places.{Place, Facts, Received, Answers, Taken, progress_of, received, received_at}
-use Rattle.css_drive_relay.specs.Places.{answering, answered_at, with_turn, Asking, Progress}
+use Rattle.css_drive_relay.specs.Places.{Place, Facts, Received, Answers, progress_of, received, with_turn, Asking}
+use Rattle.css_drive_relay.specs.Places.{Progress}
 use Rattle.css_drive_relay.specs.Laws.{IsAnswerTo, AnswersAreTrueTo}
-use Rattle.css_drive_relay.proofs.Follows.{IsRest, on_begun, on_hung_up, rest_next, moves, Followed, followed, FitsDial}
-use Rattle.css_drive_relay.proofs.Follows.{rest_moved, rest_sent, IsTimed, IsTaken, IsReceived, IsToSend, IsMove}
+use Rattle.css_drive_relay.proofs.Follows.{IsRest, on_begun, on_received, on_answered, on_hung_up, rest_next, moves}
+use Rattle.css_drive_relay.proofs.Follows.{Followed, followed, FitsDial, rest_moved, rest_sent, IsTimed, IsToSend}
+use Rattle.css_drive_relay.proofs.Follows.{IsMove}
 use Rattle.css_drive_relay.specs.declared.config.RelayRun.{RelayRun}
 use Rattle.css_model.specs.declared.Kind.{Kind}
 use Rattle.css_drive_relay.specs.SecondHop.{given_at, given_by, IsRequest, IsResponse, IsSentAt, SentIsKnown, IsGiven}
@@ -128,21 +129,16 @@ ticket_small (Some span) (Ok originate) ticket e = by (is_beyond span) e
         (between_small span)
 
 -- ---- the declared error
-possible_small : (own : Local) (landed : LandedAnswer) (older : List LandedAnswer) (possible : Bool)
-    → landed.message.error ≤ max_error → greatest_error (possible_answers own older) ≤ max_error
-    → greatest_error (option_to_list (cond possible (Some (times_of landed older)) None)
-    ++ possible_answers own older) ≤ max_error
-possible_small own landed older true small rest = omega (arith, small, rest)
-possible_small own landed older false small rest = rest
-
 landed_small : (own : Local) (older : History) (o : Option LandedAnswer)
     → ((landed : LandedAnswer) → o ≡ Some landed → landed.message.error ≤ max_error)
     → greatest_error (accepted_answers own older) ≤ max_error
     → greatest_error (possible_answers own (option_to_list o ++ landed_answers older)) ≤ max_error
 landed_small own older None small rest = rest
 landed_small own older (Some landed) small rest =
-    possible_small own landed (landed_answers older) (is_possible own landed (landed_answers older))
-    (small landed refl) rest
+    let fits = small landed refl in
+    elim (is_possible own landed (landed_answers older)) as (λ possible. greatest_error
+    (option_to_list (cond possible (Some (times_of landed (landed_answers older))) None) ++ accepted_answers own older)
+    ≤ max_error) [ true ↦ omega (arith, fits, rest) | false ↦ rest ]
 
 errors_small : (own : Local) (h : History) → greatest_error (accepted_answers own h) ≤ max_error
 errors_small own [] = omega arith
@@ -248,13 +244,15 @@ answer_is_no_request own history reading ticket bytes e = by (answered_after own
         (type_of_encoded message ∙ ap (λ (m : Message). m.message_type) (sym x.same))))
 
 -- ---- requests that were taken
--- a request was taken in the history, and this is its ticket
-record HasTaken (own : Local) (history : History) (ticket : Ticket) : Type 0 where
-  request : List ℕ
-  take : ℕ
-  before_take : History
-  taken : Once (λ entry older. (entry ≡ Clock why.Take take) × (older ≡ before_take)) history
-  received : received_after own before_take take request ≡ Ok ticket
+-- a request was taken, and this is its ticket: `so` says of the reading and of what came before it when
+abbrev TakenSo : (ℕ → History → Type 0) → Local → Ticket → Type 0
+TakenSo so own ticket = (request : List ℕ) × (take : ℕ) × (before : History) × so take before
+    × (received_after own before take request ≡ Ok ticket)
+
+-- in the history
+abbrev HasTaken : Local → History → Ticket → Type 0
+HasTaken own history =
+    TakenSo (λ take before. Once (λ entry older. (entry ≡ Clock why.Take take) × (older ≡ before)) history) own
 
 -- what the place says of the history
 abbrev Says : Local → History → Place → Type 0
@@ -263,16 +261,6 @@ Says own history (Answers peer bytes) = IsAnswerTo own history bytes
 Says own history _ = Unit {0}
 
 -- an entry more
-taken_later : {own : Local} {history : History} {ticket : Ticket} (entry : Entry) → HasTaken own history ticket
-    → HasTaken own (entry ∷ history) ticket
-taken_later entry t = record {
-  request = t.request;
-  take = t.take;
-  before_take = t.before_take;
-  taken = inr t.taken;
-  received = t.received;
-}
-
 abbrev pub answer_later : {own : Local} {history : History} {message : Message} (entry : Entry)
     → IsAnswerOf own history message → IsAnswerOf own (entry ∷ history) message
 answer_later entry x = record {
@@ -288,14 +276,12 @@ answer_later entry x = record {
   answered = x.answered;
 }
 
-answered_later : {own : Local} {history : History} {bytes : List ℕ} (entry : Entry) → IsAnswerTo own history bytes
-    → IsAnswerTo own (entry ∷ history) bytes
-answered_later entry t = record { message = t.message; wire = t.wire; answer = answer_later entry t.answer }
-
 says_later : (own : Local) (history : History) (entry : Entry) (place : Place) → Says own history place
     → Says own (entry ∷ history) place
-says_later own history entry (Received peer ticket) t = taken_later entry t
-says_later own history entry (Answers peer bytes) t = answered_later entry t
+says_later own history entry (Received peer ticket) (request, take, before, taken, received) =
+    (request, take, before, inr taken, received)
+says_later own history entry (Answers peer bytes) t =
+    record { message = t.message; wire = t.wire; answer = answer_later entry t.answer }
 says_later own history entry _ t = tt
 
 -- where a turn goes on, nothing is told
@@ -312,52 +298,22 @@ after_move own older entry before place (inl same) t =
 after_move own older entry before place (inr rest) t = tells_rest own (entry ∷ older) place rest
 
 -- ---- the clock
-receiving : (own : Local) (history : History) (reading peer : ℕ) (bytes : List ℕ) (result : Result Ticket RelayFault)
-    → received_after own history reading bytes ≡ result
-    → Says own (Clock why.Take reading ∷ history) (received peer result)
-receiving own history reading peer bytes (Err fault) e = tt
-receiving own history reading peer bytes (Ok ticket) e =
-    record { request = bytes; take = reading; before_take = history; taken = inl (refl, refl); received = e }
-
-says_taken : (run : RelayRun) (history : History) (reading : ℕ) (place : Place)
-    → Says run.companion.local history place
-    → Says run.companion.local (Clock why.Take reading ∷ history) (received_at run reading history place)
-says_taken run history reading (Taken peer bytes) t =
-    receiving run.companion.local history reading peer bytes
-    (received_after run.companion.local history reading bytes) refl
-says_taken run history reading place t = says_later run.companion.local history (Clock why.Take reading) place t
-
--- so what is answered then is an answer
+-- what is answered once a request was taken is an answer
 abbrev answer_from : {own : Local} {history : History} {reading : ℕ} {ticket : Ticket} {message : Message}
     → HasTaken own history ticket → answered_after own history reading ticket ≡ Ok message
     → IsAnswerOf own (Clock why.Give reading ∷ history) message
 answer_from {history = history} {reading} {ticket} t e = record {
-  request = t.request;
+  request = t.0;
   ticket = ticket;
-  take = t.take;
+  take = t.1;
   give = reading;
-  before_take = t.before_take;
+  before_take = t.2;
   before_give = history;
-  taken = t.taken;
+  taken = t.3;
   given = inl (refl, refl);
-  received = t.received;
+  received = t.4;
   answered = e;
 }
-
-giving : (own : Local) (history : History) (reading peer : ℕ) (ticket : Ticket) (result : Result Message RelayFault)
-    → HasTaken own history ticket → answered_after own history reading ticket ≡ result
-    → Says own (Clock why.Give reading ∷ history) (answering peer (datagram_of result))
-giving own history reading peer ticket (Err fault) t e = tt
-giving own history reading peer ticket (Ok message) t e =
-    record { message = message; wire = refl; answer = answer_from t e }
-
-says_given : (run : RelayRun) (history : History) (reading : ℕ) (place : Place)
-    → Says run.companion.local history place
-    → Says run.companion.local (Clock why.Give reading ∷ history) (answered_at run reading history place)
-says_given run history reading (Received p ticket) t =
-    giving run.companion.local history reading p ticket
-    (answered_after run.companion.local history reading ticket) t refl
-says_given run history reading place t = says_later run.companion.local history (Clock why.Give reading) place t
 
 -- ---- each history
 says : (run : RelayRun) (history : History) → Says run.companion.local history (progress_of run history).place
@@ -367,18 +323,30 @@ says run (Clock why.Turn reading ∷ older) =
     (with_turn reading (progress_of run older).facts) tt tt
 says run (Clock why.Ask reading ∷ older) = tt
 says run (Clock why.Take reading ∷ older) =
-    says_taken run older reading (progress_of run older).place (says run older)
+    on_received (Says run.companion.local (Clock why.Take reading ∷ older)) run reading older
+    (progress_of run older).place
+    (λ _. says_later run.companion.local older (Clock why.Take reading) (progress_of run older).place (says run older))
+    tt
+    (λ peer bytes ticket e. (bytes, reading, older, inl (refl, refl), e))
 says run (Clock why.Give reading ∷ older) =
-    says_given run older reading (progress_of run older).place (says run older)
+    on_answered (Says run.companion.local (Clock why.Give reading ∷ older)) run reading older
+    (progress_of run older).place
+    (λ _. says_later run.companion.local older (Clock why.Give reading) (progress_of run older).place (says run older))
+    tt
+    (λ peer ticket message at e. record {
+      message = message;
+      wire = refl;
+      answer = answer_from (subst (λ (place : Place). Says run.companion.local older place) at (says run older)) e;
+    })
 says run (Dialled k peer ∷ older) = tt
 says run (Took peer bytes ∷ older) = tt
 says run (HungUp peer ∷ older) =
     let f : Facts = (progress_of run older).facts in
     on_hung_up (Says run.companion.local (HungUp peer ∷ older)) (progress_of run older).place f
-    (tells_rest run.companion.local _ _ (rest_next f.television f.peers)) (λ left. tt) (λ left. tt)
+    (tells_rest run.companion.local (HungUp peer ∷ older) _ (rest_next f.television f.peers)) (λ left. tt) (λ left. tt)
 says run (entry ∷ older) =
     after_move run.companion.local older entry (progress_of run older).place (progress_of run (entry ∷ older)).place
-    (moves run older entry tt (progress_of run older)).4 (says run older)
+    (moves run older entry tt (progress_of run older).facts (progress_of run older).place).2 (says run older)
 
 pub answers_are_true : AnswersAreTrueTo
 answers_are_true run history peer bytes e =
@@ -387,12 +355,9 @@ answers_are_true run history peer bytes e =
     record {
       answers = is;
       is_true = λ errors world who moment_of keeps range lawful explains.
-          two.answers_are_true errors world who run.companion.local history moment_of is.message keeps range lawful
-          explains is.answer;
-      truthful = λ errors world who moment_of keeps range lawful explains.
-          two.true_is_truthful world errors.tv _ _ is.message
-          (two.answers_are_true errors world who run.companion.local history moment_of is.message keeps range lawful
-          explains is.answer);
+          let x = two.answers_are_true errors world who run.companion.local history moment_of is.message keeps range
+          lawful explains is.answer in
+          (x, two.true_is_truthful world errors.tv _ _ is.message x);
     }
 
 -- ---- places of a proper run
@@ -402,12 +367,8 @@ awake (Slept ∷ older) = awake older
 awake h = h
 
 -- a request was received: the clock was read for it last, but for sleeps
-pub record IsTicket (own : Local) (h : History) (ticket : Ticket) : Type 0 where
-  pub request : List ℕ
-  pub take : ℕ
-  pub before : History
-  pub just : awake h ≡ Clock why.Take take ∷ before
-  pub received : received_after own before take request ≡ Ok ticket
+abbrev IsTicket : Local → History → Ticket → Type 0
+IsTicket own h = TakenSo (λ take before. awake h ≡ Clock why.Take take ∷ before) own
 
 abbrev pub Shows : RelayRun → History → Place → Type 0
 Shows run h (Received peer ticket) = IsTicket run.companion.local h ticket
@@ -430,40 +391,17 @@ module _ (run : RelayRun) (older : History) where
   p = progress_of run older
 
   after_sleep : (place : Place) → IsTimed place → Shows run older place → Shows run (Slept ∷ older) place
-  after_sleep (Received peer ticket) timed x =
-      record { request = x.request; take = x.take; before = x.before; just = x.just; received = x.received }
+  after_sleep (Received peer ticket) timed x = x
   after_sleep (Asking reading) timed x = absurd timed
   after_sleep (Answers peer datagram) timed x = absurd timed
   after_sleep place timed x = tt
-
-  after_take : (reading : ℕ) (place : Place) → IsTaken place
-      → Shows run (Clock why.Take reading ∷ older) (places.received_at run reading older place)
-  after_take reading (Taken peer bytes) is = by (received_after run.companion.local older reading bytes) refl
-    where
-      by : (x : Result Ticket RelayFault) → received_after run.companion.local older reading bytes ≡ x
-          → Shows run (Clock why.Take reading ∷ older) (places.received peer x)
-      by (Err fault) e = tt
-      by (Ok ticket) e = record { request = bytes; take = reading; before = older; just = refl; received = e }
-  after_take reading place is = absurd is
-
-  after_give : (reading : ℕ) (place : Place) → p.place ≡ place → IsReceived place
-      → Shows run (Clock why.Give reading ∷ older) (places.answered_at run reading older place)
-  after_give reading (Received peer ticket) at is =
-      by (answered_after run.companion.local older reading ticket)
-      (ap (λ (place : Place). given_at run reading older place) at)
-    where
-      by : (x : Result Message RelayFault) → given_by run (Clock why.Give reading) older ≡ result_ok x
-          → Shows run (Clock why.Give reading ∷ older) (places.answering peer (datagram_of x))
-      by (Err fault) e = tt
-      by (Ok message) e =
-          record { reading = reading; before = older; message = message; just = refl; given = e; wire = refl }
-  after_give reading place at is = absurd is
 
   moved : (entry : Entry) → IsMove entry → IsRest p.place
       → Shows run (entry ∷ older) (places.after run entry older p).place
   moved entry is rest =
       let q : Progress = places.after run entry older p in
-      shows_rest run (entry ∷ older) q.place (rest_moved p.facts p.place q (moves run older entry is p) rest)
+      shows_rest run (entry ∷ older) q.place
+      (rest_moved p.facts p.place q (moves run older entry is p.facts p.place) rest)
 
 -- what the place says after each history of a run
 pub shape_of : (run : RelayRun) (h : History) → Followed run h → Shows run h (progress_of run h).place
@@ -475,9 +413,18 @@ shape_of run (Clock why.Turn reading ∷ older) each =
     tt tt
 shape_of run (Clock why.Ask reading ∷ older) each = (older, refl)
 shape_of run (Clock why.Take reading ∷ older) each =
-    after_take run older reading (progress_of run older).place each.0.2
+    on_received (Shows run (Clock why.Take reading ∷ older)) run reading older (progress_of run older).place
+    (λ never. absurd (never each.0.2)) tt (λ peer bytes ticket e. (bytes, reading, older, refl, e))
 shape_of run (Clock why.Give reading ∷ older) each =
-    after_give run older reading (progress_of run older).place refl each.0.2
+    on_answered (Shows run (Clock why.Give reading ∷ older)) run reading older (progress_of run older).place
+    (λ never. absurd (never each.0.2)) tt (λ peer ticket message at e. record {
+      reading = reading;
+      before = older;
+      message = message;
+      just = refl;
+      given = ap (given_at run reading older) at ∙ ap result_ok e;
+      wire = refl;
+    })
 shape_of run (Dialling k to ∷ older) each = moved run older (Dialling k to) tt (dial_rest _ k each.0)
 shape_of run (Sent peer bytes ∷ older) each =
     shows_rest run _ _ (rest_sent (progress_of run older).place (progress_of run older).facts)
@@ -536,16 +483,11 @@ taken_before take b h e = (
 gives : (run : RelayRun) (older : History) (reading : ℕ) (message : Message) (place : Place) → Shows run older place
     → given_at run reading older place ≡ Some message
     → IsFound run.companion.local (Clock why.Give reading ∷ older) message older
-gives run older reading message (Received peer ticket) shows is =
-    let taken = taken_before shows.take shows.before older shows.just in
+gives run older reading message (Received peer ticket) (request, take, before, just, received) is =
+    let taken = taken_before take before older just in
     record {
-      answer = answer_from {ticket = ticket} (record {
-        request = shows.request;
-        take = shows.take;
-        before_take = shows.before;
-        taken = taken.0;
-        received = shows.received;
-      }) (ok_some (answered_after run.companion.local older reading ticket) is);
+      answer = answer_from {ticket = ticket} (request, take, before, taken.0, received)
+          (ok_some (answered_after run.companion.local older reading ticket) is);
       at_take = taken.1;
       at_give = refl;
     }
@@ -566,41 +508,21 @@ found run (entry ∷ older) each message before (inr later) =
     found_later entry (found run older each.1 message before later)
 
 -- ---- the laws
-true_at : (world : World) (tv_error : ℕ) (moment_of : ℕ → ℕ) (message : Message) (before : History) (take give : ℕ)
-    → take ≡ last_take before → give ≡ length before
-    → IsTrueResponse world tv_error (moment_of take) (moment_of give) message
-    → IsTrueResponse world tv_error (moment_of (last_take before)) (moment_of (length before)) message
-true_at world tv_error moment_of message before take give is_take is_give x =
-    subst (λ (n : ℕ). IsTrueResponse world tv_error (moment_of (last_take before)) (moment_of n) message) is_give
-    (subst (λ (n : ℕ). IsTrueResponse world tv_error (moment_of n) (moment_of give) message) is_take x)
-
 pub given_is_true : GivenIsTrue
 given_is_true errors world who run history moment_of message before proper for range lawful explains given =
     let x : IsFound run.companion.local history message before = found run history (followed run history proper) message
     before given in
     let is : IsTrueResponse world errors.tv (moment_of (last_take before)) (moment_of (length before)) message =
-    true_at world errors.tv moment_of message before (length x.answer.before_take) (length x.answer.before_give)
-    x.at_take (ap length x.at_give)
-    (two.answers_are_true errors world who run.companion.local history moment_of message for range lawful explains
-    x.answer) in
+    rw (x.at_take, x.at_give) at (two.answers_are_true errors world who run.companion.local history moment_of message
+    for range lawful explains x.answer) in
     record { response = is; truthful = two.true_is_truthful world errors.tv _ _ message is }
 
 -- what was sent right after a reading for an answer is the datagram of the response given then
 sent_given : (run : RelayRun) (bytes : List ℕ) (give : ℕ) (before h : History) → h ≡ Clock why.Give give ∷ before
     → IsRequest bytes h ⊎ IsResponse run bytes h
     → (message : Message) × (given_by run (Clock why.Give give) before ≡ Some message) × (bytes ≡ encoded message)
-sent_given run bytes give before h is (inl asked) =
-    absurd (let e : Clock why.Give give ∷ before ≡ Clock why.Ask asked.reading ∷ asked.before =
-    sym is ∙ asked.just in cc)
-sent_given run bytes give before h is (inr r) =
-    let e : Clock why.Give r.reading ∷ r.before ≡ Clock why.Give give ∷ before = sym r.just ∙ is in
-    let reading : r.reading ≡ give = cc in
-    let older : r.before ≡ before = cc in (
-      r.message,
-      subst (λ (x : History). given_by run (Clock why.Give give) x ≡ Some r.message) older
-          (subst (λ (n : ℕ). given_by run (Clock why.Give n) r.before ≡ Some r.message) reading r.given),
-      r.wire,
-    )
+sent_given run bytes give before h is (inl asked) = absurd (let e = sym is ∙ asked.just in cc)
+sent_given run bytes give before h is (inr r) = let e = sym r.just ∙ is in (r.message, cc (r.given), r.wire)
 
 -- so some response was given that it is the datagram of
 abbrev IsSentOf : RelayRun → History → List ℕ → History → Type 0

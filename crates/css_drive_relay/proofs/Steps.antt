@@ -1,10 +1,8 @@
 -- How a relay's run goes on by a call that is due, which sessions it knows then, what its dials, requests, landings,
 -- answers and sessions make of it, and how it ends.
 use Rattle.std.proofs.Common.{◌≡◌, ℕ, ◌≤◌, ◌<◌, arith, ap, ◌∙◌, refl, Bool, true, false, cond, List, [], ◌∷◌, ◌++◌}
-use Rattle.std.proofs.Common.{Option, Some, None, add-one, ◌+◌, sym, subst, ◌||◌, inl, inr, Result, Ok, ap₂, Err}
-use Rattle.std.specs.Prelude.{All, ◌==◌, not, nat_lt, is_some, ◌⊎◌, unwrap_or, IsErrAnd, MatchResult, ◌&&◌, IfSome}
-use Rattle.std.specs.Prelude.{length}
-use Rattle.std.specs.List.{insert}
+use Rattle.std.proofs.Common.{Option, Some, None, ◌+◌, sym, subst, ◌||◌, inl, inr, Result, Ok, ap₂, Err}
+use Rattle.std.specs.Prelude.{All, ◌==◌, not, is_some, ◌⊎◌, unwrap_or, MatchResult, ◌&&◌, IfSome, length}
 use Rattle.std.specs.Option.{option_or, ForSome, option_map}
 use Rattle.std.proofs.lemmas.Bool.{ne_eqb, eq-eqb, cond_both}
 use Rattle.std.proofs.lemmas.Option.{IfSome_then}
@@ -17,13 +15,13 @@ use Rattle.css_model.specs.History.{landed_answer, Address, Dialling, NotDialled
 use Rattle.css_model.specs.History.{Heard, Sent, request_in, NoneCame}
 use Rattle.css_companion.specs.Meanings.{kind_of, cii_text, ts_text, opens_ts, closes_ts, is_cii, is_ts, state_of}
 use Rattle.css_drive.specs.TvRan.{AreBelow, AreNumbered}
-use Rattle.css_drive_relay.specs.Places.{Facts, Progress, next_asked, telling, telling_if, with_peer, without, Place}
+use Rattle.css_drive_relay.specs.Places.{Facts, Progress, next_asked, telling, telling_if, without, Place}
 use Rattle.css_drive_relay.specs.Places.{after, progress_of, Begun, Called, after_dial, after_clock, Asked, Over}
 use Rattle.css_drive_relay.specs.Places.{all_open, without_first, hung_up, beginning, with_turn, Taken, Received}
 use Rattle.css_drive_relay.specs.Places.{Served, received, answering, Welcomed, welcomed, published, television_told}
 use Rattle.css_drive_relay.specs.Places.{is_kept, opened_if, Asking}
 use Rattle.css_drive_relay.specs.Standing.{AreInOrder, KnowsPeers, named, Knows, Runs, Stops, HasRead, facts_in, stood}
-use Rattle.css_drive_relay.specs.Standing.{IsCounted, Stands, IsAt, Comes, HangsUp, Keeps, listening, Came}
+use Rattle.css_drive_relay.specs.Standing.{IsCounted, Stands, IsAt, HangsUp, Keeps, Came, visiting}
 use Rattle.css_model.specs.declared.Why.{Why}
 use Rattle.css_model.specs.Explains.{IsLawful}
 use Rattle.css_outside.specs.Outsides.{Counts, with_entries, clock_entries, sleep_entries}
@@ -34,19 +32,20 @@ use Rattle.css_drive.specs.CompanionStanding.{IsRefusal}
 use Rattle.css_drive.specs.Ends.{MayEnd, IsNetFault, CountsNetFault, CountsDialFaults}
 use Rattle.css_drive.specs.Proper.{Due, Now, MayAdd, More, Dial, Ends, Empty, TakeDatagram}
 use Rattle.css_drive.specs.declared.driven.Driven.{Driven}
-use Rattle.css_drive.proofs.CompanionSteps.{none_if, told_more, counts_same, fault_ends, at_err, own_quiet}
+use Rattle.css_drive.proofs.CompanionSteps.{told_more, counts_same, fault_ends, own_quiet}
+use Rattle.css_drive_relay.specs.Ran.{CountsRelayRun}
 use Rattle.css_drive_relay.specs.Due.{due, due_at, due_for, final, from_hang_ups, from_taken, from_ask}
 use Rattle.css_drive_relay.specs.declared.live.Live.{Live}
+use Rattle.css_drive_relay.specs.declared.sessions.Visit.{Visit}
 use Rattle.css_drive_relay.specs.declared.config.RelayRun.{RelayRun}
 use Rattle.css_cii.specs.declared.name.CiiName.TheVariants.{WcUrl}
 use Rattle.css_address.specs.declared.fault.AddressFault.{AddressFault}
-use Rattle.css_drive.specs.CompanionDue.{dial_first, dial_to, place, refusal_of, end_by}
-use Rattle.css_cii.specs.States.{empty}
+use Rattle.css_drive.specs.CompanionDue.{dial_to, place, refusal_of, end_by}
 use Rattle.css_cii.specs.declared.state.State.{State}
 use Rattle.css_outside.specs.Faults.{HasRisen}
 use Rattle.css_drive.specs.CompanionTurns.{goes_on, is_late, is_asking}
 use Rattle.css_drive.proofs.CompanionEnds.{never_late}
-use Rattle.css_drive.proofs.CompanionRuns.{no_entries}
+use Rattle.css_drive.proofs.CompanionEnds.{no_entries}
 use Rattle.css_outside.specs.Limits.{IsLimit, most_turns}
 use Rattle.css_outside.specs.declared.limit.Limit.{Limit}
 use Rattle.css_outside.specs.declared.limit.Limit.TheVariants.{Turns, Seconds}
@@ -54,7 +53,7 @@ use Rattle.css_model.specs.WallClock.{Local}
 use Rattle.css_companion.specs.Standing.{StandsFor, own_of}
 use Rattle.css_relay.specs.Answers.{Ticket, received_after, answered_after, datagram_of}
 use Rattle.css_relay.specs.declared.fault.RelayFault.{RelayFault}
-use Rattle.css_drive.proofs.CompanionCalls.{lawful_plain, refusal_ends, refusal_own}
+use Rattle.css_drive.proofs.CompanionSteps.{lawful_plain, refusal_ends, refusal_own}
 use Rattle.css_sessions.specs.Kept.{difference_text}
 use Rattle.css_companion.specs.declared.fault.CompanionFault.{CompanionFault}
 use Rattle.css_drive_relay.specs.Told.{relayed}
@@ -135,16 +134,6 @@ pub unnamed : (history : History) (place : Place) → named place ≡ [] → {A 
 unnamed history place e x =
     (x.0, subst (λ (xs : List ℕ). All (Came history) xs) (sym e) (All-nil (Came history)), x.2)
 
--- ---- order
--- a peer is added before the first greater one
-pub insert_place : (new : ℕ) (peers : List ℕ) → insert peers (places.place new peers) new ≡ with_peer new peers
-insert_place new [] = refl
-insert_place new (p ∷ ps) = go (nat_lt p new) (insert_place new ps) where
-  go : (b : Bool) → insert ps (places.place new ps) new ≡ with_peer new ps
-      → insert (p ∷ ps) (cond b (places.place new ps + 1) 0) new ≡ cond b (p ∷ with_peer new ps) (new ∷ p ∷ ps)
-  go true ih = rw add-one (ap (λ xs. p ∷ xs) ih)
-  go false ih = refl
-
 -- ---- what the relay knows
 -- an entry that tells it nothing
 pub knows_plain : {run : RelayRun} {relay : Relay} {history : History} → Knows run relay history → (entry : Entry)
@@ -218,44 +207,29 @@ stops_by_fault {run} {start} {now} {next} {history = history} {ended} s l f =
       counted = subst P s.faults f.counted;
     }
 
--- and a `?` ends the function
-pub failed : {T : Type 0} (P : T → Type 0) (result : Result T Driven) {run : RelayRun} {start now next : Shown}
-    {relay : Relay} {p : Progress} {history : History} {ended : Driven} → IsErrAnd result (λ x. x ≡ ended)
-    → Stands run start now relay p history → Fails now next None ended → MatchResult result P (Stops run start next)
-failed P result is s f = at_err P _ _ result is (stops_by_fault s.runs (lawful s.knows) f)
-
--- ---- steps, one after another
--- a step begins where the one before it came to, at a place or where this is due
-module _ {run : RelayRun} {start now : Shown} {relay : Relay} {Next : Type 0} where
-  pub on_at : {p : Progress} → IsAt run start now relay p
-      → ((history : History) → Stands run start now relay p history → Next) → Next
-  on_at x next = next x.history x.stands
-
-  pub on_from : {live : Live} {to : Facts → History → Due} → Comes run start now relay live to
-      → ((history : History) (place : Place) → Stands run start now relay (stood live place) history
-      → due_at run (facts_in live) history place ≡ to (facts_in live) history → Next) → Next
-  on_from x next = next x.history x.place x.stands x.next
-
 -- ---- a call that is due
--- the run came so far, as the variables say it
-pub here : {run : RelayRun} {start now : Shown} {relay : Relay} {p : Progress} {history : History}
-    → Stands run start now relay p history → IsAt run start now relay p
-here {history = history} s = record { history = history; stands = s }
+-- the run came to this history, and at this place to what follows there
+module _ {run : RelayRun} {start now : Shown} {relay : Relay} {history : History} where
+  pub here : {p : Progress} → Stands run start now relay p history → (h : History) × Stands run start now relay p h
+  here s = (history, s)
 
-pub here_as : {run : RelayRun} {start now : Shown} {relay : Relay} {history : History} {f g : Facts}
+  pub comes : {f : Facts} {place : Place} {Next : History → Place → Type 0}
+      → Stands run start now relay (record { facts = f; place = place }) history → Next history place
+      → (h : History) × (at : Place) × Stands run start now relay (record { facts = f; place = at }) h × Next h at
+  comes {place = place} s next = (history, place, s, next)
+
+-- the facts are the same
+pub stands_with : {run : RelayRun} {start now : Shown} {relay : Relay} {history : History} {f g : Facts}
     (to : Facts → Place) → f ≡ g → Stands run start now relay (record { facts = g; place = to g }) history
-    → IsAt run start now relay (record { facts = f; place = to f })
-here_as {run} {start} {now} {relay} {history} to e s =
-    here (subst (λ (x : Facts). Stands run start now relay (record { facts = x; place = to x }) history) (sym e) s)
+    → Stands run start now relay (record { facts = f; place = to f }) history
+stands_with {run} {start} {now} {relay} {history} to e s =
+    subst (λ (x : Facts). Stands run start now relay (record { facts = x; place = to x }) history) (sym e) s
 
 -- the same, seen as another progress
-pub runs_as : {run : RelayRun} {start now : Shown} {p : Progress} {history : History}
-    → Runs run start now p history → (q : Progress) → p ≡ q → Runs run start now q history
-runs_as {run} {start} {now} {history = history} s q e = subst (λ x. Runs run start now x history) e s
-
 pub stands_as : {run : RelayRun} {start now : Shown} {relay : Relay} {p : Progress} {history : History}
     → Stands run start now relay p history → (q : Progress) → p ≡ q → Stands run start now relay q history
-stands_as s q e = record { runs = runs_as s.runs q e; knows = s.knows }
+stands_as {run} {start} {now} {relay} {history = history} s q e =
+    subst (λ x. Stands run start now relay x history) e s
 
 pub may_as : {d e : Due} → d ≡ e → (call : History) → MayAdd e call → MayAdd d call
 may_as is call = subst (λ (x : Due). MayAdd x call) (sym is)
@@ -301,15 +275,16 @@ module _ {run : RelayRun} {start now : Shown} {relay : Relay} {p : Progress} {hi
   -- or the call failed, and a function ends with it
   pub made : (next : Shown) (result : Result (Unit {0}) Driven)
       → MatchResult result (λ _. Adds now next (entry ∷ [])) (Fails now next None)
-      → MatchResult result (λ _. IsAt run start next relay (after run entry history p)) (Stops run start next)
-  made next (Ok done) a = here (stands_on a)
+      → MatchResult result (λ _. (h : History) × Stands run start next relay (after run entry history p) h)
+      (Stops run start next)
+  made next (Ok done) a = (_, stands_on a)
   made next (Err ended) f = stops_by_fault s.runs (lawful s.knows) f
 
 -- ---- the clock
-module _ {run : RelayRun} {start now next : Shown} {live later : Live} {place : Place} {history : History}
-    {was is : Relay} {w : Why} {clocked : Clocked} where
+module _ {run : RelayRun} {start now next : Shown} {live later : Live} {place : Place} {history : History} {w : Why}
+    {clocked : Clocked} where
   pub runs_read : Runs run start now (stood live place) history → due_at run (facts_in live) history place ≡ Now w
-      → HasRead now next live later was is w clocked → (q : Progress)
+      → HasRead now next live later w clocked → (q : Progress)
       → after_clock run w clocked.reading (sleep_entries clocked.slept ++ history) (stood later place) ≡ q
       → (KnowsPeers (stood later place) history → KnowsPeers q history)
       → Runs run start next q (clock_entries w clocked ++ history)
@@ -339,25 +314,24 @@ module _ {run : RelayRun} {start now next : Shown} {live later : Live} {place : 
       in_order = subst (λ (n : ℕ). AreInOrder (n + 1) history) (sym r.peers) s.ordered
 
   -- and neither for a request nor for a landing
-  pub stands_read : Stands run start now was (stood live place) history
+  pub stands_read : Stands run start now live.relay (stood live place) history
       → due_at run (facts_in live) history place ≡ Now w
       → IsAside (sleep_entries clocked.slept ++ history) (Clock w clocked.reading)
-      → HasRead now next live later was is w clocked → (q : Progress)
+      → HasRead now next live later w clocked → (q : Progress)
       → after_clock run w clocked.reading (sleep_entries clocked.slept ++ history) (stood later place) ≡ q
       → (KnowsPeers (stood later place) history → KnowsPeers q history)
-      → Stands run start next is q (clock_entries w clocked ++ history)
+      → Stands run start next later.relay q (clock_entries w clocked ++ history)
   stands_read s is-due none r q goes peers = record {
     runs = runs_read s.runs is-due r q goes peers;
     knows = aside (r.known run history s.knows) (Clock w clocked.reading) none;
   }
 
-module _ {run : RelayRun} {start now mid : Shown} {live later : Live} {history : History} {was is : Relay}
-    {clocked : Clocked} where
+module _ {run : RelayRun} {start now mid : Shown} {live later : Live} {history : History} {clocked : Clocked} where
   -- for a request of the relay's own
   pub asks : {place : Place} → Runs run start now (stood live place) history
       → due_at run (facts_in live) history place ≡ from_ask run (facts_in live) history
       → (peer : ℕ) → live.wc ≡ Some peer → is_asking run.ask_every live.turn live.asked ≡ true
-      → HasRead now mid live later was is why.Ask clocked
+      → HasRead now mid live later why.Ask clocked
       → Runs run start mid (stood later (Asking clocked.reading)) (clock_entries why.Ask clocked ++ history)
   asks s is-due peer some time r =
       runs_read s
@@ -366,7 +340,7 @@ module _ {run : RelayRun} {start now mid : Shown} {live later : Live} {history :
 
   -- for a landing
   pub lands : {peer : ℕ} {bytes : List ℕ} → Runs run start now (stood live (Taken peer bytes)) history
-      → is_some (request_in bytes) ≡ false → HasRead now mid live later was is why.Land clocked
+      → is_some (request_in bytes) ≡ false → HasRead now mid live later why.Land clocked
       → Runs run start mid (stood later Served) (clock_entries why.Land clocked ++ history)
   lands s none r =
       runs_read s (ap from_taken none) r (stood later Served) refl (unnamed history Served refl)
@@ -396,36 +370,14 @@ pub stops_by_memory : {run : RelayRun} {start now : Shown} {p : Progress} {histo
 stops_by_memory {run} {start} {now} s l ended e =
     subst (λ (x : Driven). Stops run start now x) (sym e) (stops_here s l driven.Memory (λ x. x) tt)
 
--- ---- what is due where a dial or a request is skipped
-pub ask_undialled : (o : Option ℕ) (b : Bool) (x y : Due) → o ≡ None → cond (is_some o && b) x y ≡ y
-ask_undialled o b x y e = ap (λ (p : Option ℕ). cond (is_some p && b) x y) e
-
-pub first_skipped : (o : Option ℕ) (to : Address) (rest : Due) → is_some o ≡ true → dial_first o to rest ≡ rest
-first_skipped None to rest e = absurd (cc)
-first_skipped (Some p) to rest e = refl
-
-pub first_made : (o : Option ℕ) (to : Address) (rest : Due) → is_some o ≡ false
-    → dial_first o to rest ≡ Dial kind.Cii to
-first_made o to rest e = ap (λ (p : Option ℕ). dial_first p to rest) (none_if o e)
-
-pub wc_skipped : (o : Option ℕ) (url : Option (Result Address AddressFault)) (rest : Due) → is_some o ≡ true
-    → dial_to o kind.Wc WcUrl url rest ≡ rest
-wc_skipped None url rest e = absurd (cc)
-wc_skipped (Some p) url rest e = refl
-
-pub wc_made : (o : Option ℕ) (url found : Option (Result Address AddressFault)) (rest : Due) → is_some o ≡ false
-    → url ≡ found → dial_to o kind.Wc WcUrl url rest ≡ dial_to None kind.Wc WcUrl found rest
-wc_made o url found rest e f =
-    ap₂ (λ (p : Option ℕ) (x : Option (Result Address AddressFault)). dial_to p kind.Wc WcUrl x rest) (none_if o e) f
-
-pub comes : {run : RelayRun} {start now : Shown} {relay : Relay} {live : Live} {history : History} {place : Place}
-    → Stands run start now relay (stood live place) history → (to : Facts → History → Due)
-    → due_at run (facts_in live) history place ≡ to (facts_in live) history → Comes run start now relay live to
-comes {history = history} {place = place} s to next =
-    record { history = history; place = place; stands = s; next = next }
-
 -- ---- dials
--- how far the run is then
+-- what is due where the wall clock was not dialled
+pub wc_made : (o : Option ℕ) (url found : Option (Result Address AddressFault)) (rest : Due) → o ≡ None → url ≡ found
+    → dial_to o kind.Wc WcUrl url rest ≡ dial_to None kind.Wc WcUrl found rest
+wc_made o url found rest =
+    ap₂ (λ (p : Option ℕ) (x : Option (Result Address AddressFault)). dial_to p kind.Wc WcUrl x rest)
+
+-- how far the run is once a dial was tried
 abbrev pub called : Kind → Option ℕ → Facts → Progress
 called k None f = record { facts = f; place = Called k }
 called k (Some peer) f = record { facts = after_dial k peer f; place = Called k }
@@ -481,11 +433,11 @@ wc_called None f none =
     ap {A = Option ℕ} {B = Progress} (λ o. record { facts = record f { wc = o }; place = Called kind.Wc }) none
 wc_called (Some q) f none = refl
 
-module _ {run : RelayRun} {start now : Shown} {live : Live} {relay : Relay} where
+module _ {run : RelayRun} {start now : Shown} {live : Live} where
   -- the turns are over, so all open sessions are to be hung up
-  pub hangs_all : {history : History} → Stands run start now relay (stood live (Asked [])) history
+  pub hangs_all : {history : History} → Stands run start now live.relay (stood live (Asked [])) history
       → goes_on run.limit live.first live.turn live.made ≡ false
-      → HangsUp run start now relay live (all_open (facts_in live))
+      → HangsUp run start now live (all_open (facts_in live))
   hangs_all {history} s enough = record {
     history = history;
     place = Asked [];
@@ -495,8 +447,8 @@ module _ {run : RelayRun} {start now : Shown} {live : Live} {relay : Relay} wher
   }
 
   -- the first one was
-  pub hung : {left : List ℕ} {next : Shown} → HangsUp run start now relay live left → {peer : ℕ} {rest : List ℕ}
-      → left ≡ peer ∷ rest → Adds now next (HungUp peer ∷ []) → HangsUp run start next relay live rest
+  pub hung : {left : List ℕ} {next : Shown} → HangsUp run start now live left → {peer : ℕ} {rest : List ℕ}
+      → left ≡ peer ∷ rest → Adds now next (HungUp peer ∷ []) → HangsUp run start next live rest
   hung {next = next} x {peer} {rest} is a =
       let goes : hung_up x.place (facts_in live) ≡ Over rest = x.after ∙ ap (λ xs. Over (without_first xs)) is in
       record {
@@ -512,7 +464,7 @@ module _ {run : RelayRun} {start now : Shown} {live : Live} {relay : Relay} wher
 
   -- all of them were
   pub all_hung : {left : List ℕ} {ended : Driven} → ended ≡ final (facts_in live)
-      → HangsUp run start now relay live left → left ≡ [] → Stops run start now ended
+      → HangsUp run start now live left → left ≡ [] → Stops run start now ended
   all_hung e x none =
       subst (λ (d : Driven). Stops run start now d) (sym e) (stops_here x.stands.runs (lawful x.stands.knows)
       (final (facts_in live))
@@ -524,10 +476,11 @@ module _ {run : RelayRun} {start now : Shown} {live : Live} {relay : Relay} wher
       (x.next ∙ ap (from_hang_ups (final (facts_in live))) none)))
 
 -- ---- loops
--- the same, seen as another progress
-pub is_at_as : {run : RelayRun} {start now : Shown} {relay : Relay} {p q : Progress} → IsAt run start now relay p
-    → p ≡ q → IsAt run start now relay q
-is_at_as {run} {start} {now} {relay} x e = subst (λ (p : Progress). IsAt run start now relay p) e x
+-- these sessions are left to be visited
+pub visits : {run : RelayRun} {start now : Shown} (live : Live) (what : Visit) {left rest : List ℕ}
+    → IsAt (visiting what left) run start now live → left ≡ rest → IsAt (visiting what rest) run start now live
+visits {run} {start} {now} live what x e =
+    subst (λ (peers : List ℕ). IsAt (visiting what peers) run start now live) e x
 
 pub keeps_on : {T : Type 0} {old mid new : Counts} {before between now : Live} {result : Result T Driven}
     → Keeps old mid before between (Ok (tt {0})) → Keeps mid new between now result → Keeps old new before now result
@@ -535,6 +488,7 @@ keeps_on {old} {mid} {new} a b = record {
   made = b.made ∙ a.made;
   dialled = λ e. a.dialled (b.dialled e);
   dials = omega (arith, a.dials, b.dials);
+  floor = λ le. b.floor (a.floor le);
   cut = b.cut;
 }
 
@@ -559,10 +513,15 @@ ending_so f before now le tried ended (inl e) =
     by (Some p) b tried = (le, λ e. cc)
 ending_so f before now le tried ended (inr c) = cut_so before now le ended c
 
-pub dials_from : (old new : Counts) (now : ℕ) (ended : Driven) → new ≡ record old { faults = new.faults }
-    → CountsDialFaults new.dial_faults now ended → CountsDialFaults old.dial_faults now ended
-dials_from old new now ended e c =
-    subst (λ (n : ℕ). CountsDialFaults n now ended) (ap {A = Counts} (λ x. x.dial_faults) e) c
+-- with what was counted before the turns
+pub counts : {before mid now : Counts} {ended : Driven} → CountsNetFault before.faults now.faults ended
+    → mid ≡ record before { faults = mid.faults } → IsCounted mid.dial_faults now.dial_faults ended
+    → CountsRelayRun before now ended
+counts {now = now} {ended} faults e c = record {
+  faults = faults;
+  dials = subst (λ (n : ℕ). CountsDialFaults n now.dial_faults ended) (ap {A = Counts} (λ x. x.dial_faults) e) c.0;
+  no_writes = c.1;
+}
 
 -- ---- the beginning
 pub at_first : (run : RelayRun) (now : Shown) → Runs run now now beginning []
@@ -577,16 +536,12 @@ at_first run now = record {
 }
 
 -- the relay listens
-pub listens : (run : RelayRun) (now next : Shown) (relay : Relay) → Knows run relay []
-    → Adds now next (Listening run.host run.port ∷ [])
-    → Stands run now next relay listening (Listening run.host run.port ∷ [])
-listens run now next relay k a =
-    stands_on (record { runs = at_first run now; knows = k }) (Listening run.host run.port) refl tt (λ x. x) a
-
--- the variables as they begin
-pub first_facts : (state : State) (peers : List ℕ) → state ≡ empty → peers ≡ []
-    → ◌≡◌ {A = Facts} (record beginning.facts { state = state; peers = peers }) beginning.facts
-first_facts state peers e f = ap₂ (λ (s : State) (p : List ℕ). record beginning.facts { state = s; peers = p }) e f
+pub listens : {run : RelayRun} {now next : Shown} (live : Live) → Knows run live.relay []
+    → facts_in live ≡ beginning.facts → Adds now next (Listening run.host run.port ∷ [])
+    → Stands run now next live.relay (stood live (Asked [])) (Listening run.host run.port ∷ [])
+listens {run} {now} live k e a =
+    stands_with (λ f. Asked []) e (stands_on (record { runs = at_first run now; knows = k })
+    (Listening run.host run.port) refl tt (λ x. x) a)
 
 -- ---- turns
 some_turns : (limit : Limit) → IsLimit limit → 1 ≤ most_turns limit
@@ -597,11 +552,8 @@ some_turns (Seconds seconds) range = omega arith
 pub was_begun : (limit : Limit) → IsLimit limit → (first this : Option ℕ) (made : ℕ)
     → ForSome first (λ x. 1 ≤ made) → goes_on limit first this made ≡ false → 1 ≤ made
 was_begun limit range (Some first) this made some over = some first refl
-was_begun limit range None this made some over = by (nat_lt made (most_turns limit)) refl over
-  where
-    by : (b : Bool) → nat_lt made (most_turns limit) ≡ b → (b && true) ≡ false → 1 ≤ made
-    by true e over = absurd cc
-    by false e over = let least = some_turns limit range in grind (arith, nat_tests, e, least)
+was_begun limit range None this made some over =
+    let least = some_turns limit range in grind (arith, nat_tests, over, least)
 
 -- the first turn isn't the last by its time
 pub was_second : (limit : Limit) → IsLimit limit → (first : Option ℕ) (made reading : ℕ)
@@ -611,19 +563,19 @@ was_second limit range None made reading none last =
     absurd (never_late limit (Some reading) (Some reading) range refl last)
 
 -- the turn's reading was told, and it is the last by its time or isn't
-pub begun : {run : RelayRun} {start now next : Shown} {was is : Relay} {live later : Live} {history : History}
-    {f : Facts} {late last : Bool} {clocked : Clocked} → Stands run start now was (stood live (Asked [])) history
-    → goes_on run.limit live.first live.turn live.made ≡ true
-    → HasRead now next live later was is why.Turn clocked
+pub begun : {run : RelayRun} {start now next : Shown} {live later : Live} {history : History} {f : Facts}
+    {late last : Bool} {clocked : Clocked} → Stands run start now live.relay (stood live (Asked [])) history
+    → goes_on run.limit live.first live.turn live.made ≡ true → HasRead now next live later why.Turn clocked
     → f ≡ with_turn clocked.reading (facts_in later) → late ≡ is_late run.limit f.first f.turn → late ≡ last
-    → IsAt run start next is (record { facts = f; place = cond last (Asked []) Begun })
+    → Stands run start next later.relay (record { facts = f; place = cond last (Asked []) Begun })
+    (clock_entries why.Turn clocked ++ history)
 begun {run} {live = live} {later} {history} {f} {clocked = clocked} s on r e late is =
-    is_at_as (here_as (places.begun run) e
+    stands_as (stands_with (places.begun run) e
     (stands_read s
     (ap (λ b. cond b (Now why.Turn) (from_hang_ups (final (facts_in live)) (all_open (facts_in live)))) on) tt r
     _ refl (unnamed history (places.begun run (with_turn clocked.reading (facts_in later)))
     (cond_both (is_late run.limit (Some (unwrap_or later.first clocked.reading)) (Some clocked.reading)) (Asked [])
-    Begun (λ at. named at ≡ []) (λ _. refl) (λ _. refl)))))
+    Begun (λ at. named at ≡ []) (λ _. refl) (λ _. refl))))) _
     (ap {B = Progress} (λ b. record { facts = f; place = cond b (Asked []) Begun }) (sym late ∙ is))
 
 -- ---- requests of others
@@ -635,14 +587,15 @@ known_as : {run : RelayRun} (later : Live) {is : Relay} {h : History} {R : Type 
 known_as later {h = h} of to k value =
     ap (λ own. stood later (to (of own h))) (sym k.own) ∙ ap (λ x. stood later (to x)) (sym (value h k.stands))
 
-module _ {run : RelayRun} {start now mid : Shown} {live later : Live} {history : History} {was is : Relay}
-    {clocked : Clocked} where
-  pub receives : {peer : ℕ} {bytes : List ℕ} → Stands run start now was (stood live (Taken peer bytes)) history
-      → is_some (request_in bytes) ≡ true → HasRead now mid live later was is why.Take clocked
+module _ {run : RelayRun} {start now mid : Shown} {live later : Live} {history : History} {clocked : Clocked} where
+  pub receives : {peer : ℕ} {bytes : List ℕ}
+      → Stands run start now live.relay (stood live (Taken peer bytes)) history
+      → is_some (request_in bytes) ≡ true → HasRead now mid live later why.Take clocked
       → (result : Result Ticket RelayFault)
-      → ((h : History) → StandsFor is.companion h
-      → result ≡ received_after (own_of is.companion) h clocked.reading bytes)
-      → Stands run start mid is (stood later (received peer result)) (clock_entries why.Take clocked ++ history)
+      → ((h : History) → StandsFor later.relay.companion h
+      → result ≡ received_after (own_of later.relay.companion) h clocked.reading bytes)
+      → Stands run start mid later.relay (stood later (received peer result))
+      (clock_entries why.Take clocked ++ history)
   receives {peer} {bytes} s some r result value =
       stands_read s (ap from_taken some) tt r (stood later (received peer result))
       (known_as later (λ own h. received_after own h clocked.reading bytes) (received peer)
@@ -650,11 +603,13 @@ module _ {run : RelayRun} {start now mid : Shown} {live later : Live} {history :
       (unnamed history (received peer result)
       (elim result as (λ x. named (received peer x) ≡ []) [ Err bad ↦ refl | Ok ticket ↦ refl ]))
 
-  pub answers : {peer : ℕ} {ticket : Ticket} → Stands run start now was (stood live (Received peer ticket)) history
-      → HasRead now mid live later was is why.Give clocked → (result : Result (List ℕ) RelayFault)
-      → ((h : History) → StandsFor is.companion h
-      → result ≡ datagram_of (answered_after (own_of is.companion) h clocked.reading ticket))
-      → Stands run start mid is (stood later (answering peer result)) (clock_entries why.Give clocked ++ history)
+  pub answers : {peer : ℕ} {ticket : Ticket}
+      → Stands run start now live.relay (stood live (Received peer ticket)) history
+      → HasRead now mid live later why.Give clocked → (result : Result (List ℕ) RelayFault)
+      → ((h : History) → StandsFor later.relay.companion h
+      → result ≡ datagram_of (answered_after (own_of later.relay.companion) h clocked.reading ticket))
+      → Stands run start mid later.relay (stood later (answering peer result))
+      (clock_entries why.Give clocked ++ history)
   answers {peer} {ticket} s r result value =
       stands_read s refl tt r (stood later (answering peer result))
       (known_as later (λ own h. datagram_of (answered_after own h clocked.reading ticket)) (answering peer)
@@ -774,12 +729,11 @@ module _ (live : Live) {run : RelayRun} {start now next : Shown} {history : Hist
       → (later : Relay) → Knows run later (Heard peer bytes ∷ history)
       → Stands run start next later (published (relayed_state later.wc_url later.companion.state) (facts_in live))
       (Heard peer bytes ∷ history)
-  taken_in bytes a accepts later k = record {
-    runs = runs_as (heard bytes a) (published (relayed_state later.wc_url later.companion.state) (facts_in live))
-        (ap (λ (x : Option CompanionFault). television_told x (relayed run (Heard peer bytes ∷ history))
-        (facts_in live)) accepts
-        ∙ ap (λ (x : List ℕ). published (relayed_state x (state_of (Heard peer bytes ∷ history))) (facts_in live))
-        (sym k.wc_url)
-        ∙ ap (λ (x : State). published (relayed_state later.wc_url x) (facts_in live)) (sym k.stands.state));
-    knows = k;
-  }
+  taken_in bytes a accepts later k =
+      stands_as (record { runs = heard bytes a; knows = k })
+      (published (relayed_state later.wc_url later.companion.state) (facts_in live))
+      (ap (λ (x : Option CompanionFault). television_told x (relayed run (Heard peer bytes ∷ history))
+      (facts_in live)) accepts
+      ∙ ap (λ (x : List ℕ). published (relayed_state x (state_of (Heard peer bytes ∷ history))) (facts_in live))
+      (sym k.wc_url)
+      ∙ ap (λ (x : State). published (relayed_state later.wc_url x) (facts_in live)) (sym k.stands.state))

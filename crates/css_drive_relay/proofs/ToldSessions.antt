@@ -1,22 +1,21 @@
 -- What each session of a relay was told and is still to be told, over the calls of a proper run.
 use Rattle.std.proofs.Common.{◌≡◌, ℕ, ◌≤◌, Bool, true, false, cond, eqb, List, [], ◌∷◌, ◌++◌, length, Option, Some}
-use Rattle.std.proofs.Common.{None, refl, sym, ap, subst, ◌∙◌, arith, not, ◌<◌, append_assoc, zero, suc}
+use Rattle.std.proofs.Common.{None, refl, sym, ap, subst, ◌∙◌, arith, ◌<◌, append_assoc, zero, suc}
 use Rattle.std.specs.Prelude.{◌||◌, ◌&&◌, unwrap_or}
 use Rattle.std.proofs.lemmas.Bool.{cond_both}
 use Rattle.std.proofs.lemmas.Bool.Decides.{nat_tests}
 use Rattle.css_cii.specs.declared.state.State.{State}
 use Rattle.css_sessions.specs.Kept.{difference_text, full_text}
 use Rattle.css_sessions.specs.Told.{latest, with_text, cii_texts}
-use Rattle.css_drive.specs.TvPeers.{has}
 use Rattle.css_drive.specs.TvTold.{lost, sent_to, is_gone}
-use Rattle.css_drive.proofs.TvTold.{none_there}
+use Rattle.css_drive.proofs.TvTold.{none_there, numbered_rest}
 use Rattle.css_drive_relay.specs.Places.{Place, Facts, Progress, telling, telling_if, without, opened_if, published}
 use Rattle.css_drive_relay.specs.Places.{Asking, Greeting, Welcomed, Dropping, Telling, Asked, progress_of, is_kept}
 use Rattle.css_drive_relay.specs.Places.{next_asked}
 use Rattle.css_drive_relay.proofs.Follows.{waiting, text_at, IsToTell, Follows, Followed, followed, Fits, fits}
 use Rattle.css_drive_relay.proofs.Follows.{on_begun, on_hung_up, on_received, on_answered}
 use Rattle.css_drive_relay.specs.Told.{SessionStates, with_state, while_open, texts_told, relayed, published_at}
-use Rattle.css_drive_relay.specs.Told.{unless_refused, last_published, states_of, SessionsAreTold}
+use Rattle.css_drive_relay.specs.Told.{has, unless_refused, last_published, states_of, SessionsAreTold}
 use Rattle.css_companion.specs.declared.fault.CompanionFault.{CompanionFault}
 use Rattle.css_drive.specs.CompanionDue.{refusal_of}
 use Rattle.css_drive.specs.Proper.{Due, Ends}
@@ -24,7 +23,6 @@ use Rattle.css_drive.specs.TvRan.{AreBelow, AreNumbered}
 use Rattle.css_drive.specs.declared.driven.Driven.{Driven}
 use Rattle.css_model.specs.History.{Entry, History, Slept, Clock, Dialling, Dialled, NotDialled, Accepted, NoneCame}
 use Rattle.css_model.specs.History.{Sent, Quiet, Heard, Closed, Wrote, Gone, HungUp}
-use Rattle.css_drive.proofs.TvSessions.{numbered_rest}
 use Rattle.css_drive_relay.specs.declared.config.RelayRun.{RelayRun}
 use Rattle.css_model.specs.declared.Kind.{Kind}
 use Rattle.css_drive.specs.declared.driven.Driven.TheVariants as driven
@@ -51,33 +49,12 @@ has_count peer (p ∷ ps) =
 count_without : (peer other : ℕ) (peers : List ℕ)
     → count peer (without other peers) ≡ cond (eqb other peer) 0 (count peer peers)
 count_without peer other [] = cond_both (eqb other peer) 0 0 (λ n. 0 ≡ n) (λ e. refl) (λ e. refl)
-count_without peer other (p ∷ ps) =
-    by (eqb p other) (eqb p peer) (eqb other peer) refl refl refl (count_without peer other ps)
-  where
-    less : ℕ
-    less = count peer (without other ps)
-
-    by : (x y z : Bool) → eqb p other ≡ x → eqb p peer ≡ y → eqb other peer ≡ z
-        → less ≡ cond (eqb other peer) 0 (count peer ps)
-        → count peer (cond (not x) (p ∷ without other ps) (without other ps))
-        ≡ cond z 0 (cond y (suc (count peer ps)) (count peer ps))
-    by true true true e f g ih = ih ∙ ap (λ b. cond b 0 (count peer ps)) g
-    by true false false e f g ih = ih ∙ ap (λ b. cond b 0 (count peer ps)) g
-    by false true false e f g ih =
-        ap (λ b. cond b (suc less) less) f ∙ ap suc (ih ∙ ap (λ b. cond b 0 (count peer ps)) g)
-    by false false z e f g ih = ap (λ b. cond b (suc less) less) f ∙ ih ∙ ap (λ b. cond b 0 (count peer ps)) g
-    by x y z e f g ih = absurd (grind (arith, nat_tests, e, f, g))
+count_without peer other (p ∷ ps) = let ih = count_without peer other ps in grind (arith, nat_tests, ih)
 
 count_last : (peer other : ℕ) (peers : List ℕ)
     → count peer (peers ++ other ∷ []) ≡ cond (eqb other peer) (suc (count peer peers)) (count peer peers)
 count_last peer other [] = refl
-count_last peer other (p ∷ ps) = by (eqb p peer) (eqb other peer) _ _ (count_last peer other ps)
-  where
-    by : (y z : Bool) (n m : ℕ) → n ≡ cond z (suc m) m
-        → cond y (suc n) n ≡ cond z (suc (cond y (suc m) m)) (cond y (suc m) m)
-    by true true n m e = ap suc e
-    by true false n m e = ap suc e
-    by false z n m e = e
+count_last peer other (p ∷ ps) = let ih = count_last peer other ps in grind (arith, nat_tests, ih)
 
 -- ---- what is still to be sent
 -- a text so often
@@ -435,10 +412,12 @@ module _ (run : RelayRun) (peer : ℕ) (older : History) (t : Good run peer olde
       (on_begun (λ place. waiting place ≡ []) run (places.with_turn reading p.facts) refl refl)
   after (Clock why.Take reading) c n =
       stays c.0 (next (Clock why.Take reading)) refl refl
-      (on_received (λ place. waiting place ≡ []) run reading older p.place c.2 refl (λ q t. refl))
+      (on_received (λ place. waiting place ≡ []) run reading older p.place (λ never. absurd (never c.2)) refl
+      (λ q b t is. refl))
   after (Clock why.Give reading) c n =
       stays c.0 (next (Clock why.Give reading)) refl refl
-      (on_answered (λ place. waiting place ≡ []) run reading older p.place c.2 refl (λ q b. refl))
+      (on_answered (λ place. waiting place ≡ []) run reading older p.place (λ never. absurd (never c.2)) refl
+      (λ q t m at is. refl))
   after (Dialling kind.Ts to) c n = absurd c
   after (Dialling k to) c n = stays c.0 (next (Dialling k to)) refl refl c.0
   after (Dialled kind.Ts other) c n = absurd c

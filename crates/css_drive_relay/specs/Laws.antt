@@ -23,13 +23,10 @@ pub record IsTrueTo (run : RelayRun) (history : History) (bytes : List ℕ) : Ty
   pub is_true : (errors : Errors) (world : World) (who : ℕ) (moment_of : ℕ → ℕ)
       → IsWorldFor errors world who run.companion.local → IsInRange world → IsLawful history
       → Explains world who errors.tv run.companion.local history moment_of
-      → IsTrueResponse world errors.tv (moment_of (length answers.answer.before_take))
-      (moment_of (length answers.answer.before_give)) answers.message
-  pub truthful : (errors : Errors) (world : World) (who : ℕ) (moment_of : ℕ → ℕ)
-      → IsWorldFor errors world who run.companion.local → IsInRange world → IsLawful history
-      → Explains world who errors.tv run.companion.local history moment_of
-      → IsTruthfulToAll world errors.tv (moment_of (length answers.answer.before_take))
-      (moment_of (length answers.answer.before_give)) answers.message
+      → let taken = moment_of (length answers.answer.before_take) in
+      let given = moment_of (length answers.answer.before_give) in
+      IsTrueResponse world errors.tv taken given answers.message
+      × IsTruthfulToAll world errors.tv taken given answers.message
 
 -- Whatever a run is to send in answer is the true answer to a request that it took.
 abbrev pub AnswersAreTrueTo : Type 0

@@ -1,6 +1,7 @@
 -- How far a relay's run has come: a function of what its calls did so far.
 use Rattle.std.specs.Prelude.{ℕ, ◌+◌, ◌==◌, Bool, true, false, nat_lt, not, filter, List, [], ◌∷◌, ◌++◌, length}
 use Rattle.std.specs.Prelude.{if◌then◌else◌, Option, Some, None, unwrap_or, Result, Ok, Err}
+use Rattle.std.specs.List.{insert}
 use Rattle.css_model.specs.declared.Why.{Why}
 use Rattle.css_model.specs.declared.Why.TheVariants as why
 use Rattle.css_model.specs.declared.Kind.{Kind}
@@ -87,15 +88,14 @@ without peer peers = filter (λ other. not (other == peer)) peers
 abbrev pub lost : ℕ → Facts → Facts
 lost peer f = record f { peers = without peer f.peers }
 
--- one peer more, before the first greater one
-abbrev pub with_peer : ℕ → List ℕ → List ℕ
-with_peer new [] = new ∷ []
-with_peer new (peer ∷ peers) = if nat_lt peer new then peer ∷ with_peer new peers else new ∷ peer ∷ peers
-
 -- how many peers come before one
 abbrev pub place : ℕ → List ℕ → ℕ
 place peer [] = 0
 place peer (other ∷ peers) = if nat_lt other peer then place peer peers + 1 else 0
+
+-- one peer more, before the first greater one
+abbrev pub with_peer : ℕ → List ℕ → List ℕ
+with_peer new peers = insert peers (place new peers) new
 
 abbrev pub with_television : Option ℕ → List ℕ → List ℕ
 with_television None peers = peers
@@ -187,9 +187,6 @@ abbrev pub opened_if : Bool → ℕ → Facts → Progress
 opened_if true peer f = record { facts = record f { peers = f.peers ++ peer ∷ [] }; place = Greeting peer }
 opened_if false peer f = record { facts = f; place = Rejecting peer }
 
-abbrev pub opened : ℕ → Kind → Facts → Progress
-opened peer k f = opened_if (is_kept k (length f.peers)) peer f
-
 -- the relay publishes a state
 abbrev pub published : State → Facts → Progress
 published state f = let now : Facts = record f { state = state } in
@@ -247,7 +244,7 @@ after run Slept older p = record { facts = record p.facts { asked = None }; plac
 after run (Clock w reading) older p = after_clock run w reading older p
 after run (Dialled k peer) older p = record { facts = after_dial k peer p.facts; place = Called k }
 after run (NotDialled k) older p = at (Called k) p
-after run (Accepted peer k) older p = opened peer k p.facts
+after run (Accepted peer k) older p = opened_if (is_kept k (length p.facts.peers)) peer p.facts
 after run NoneCame older p = at (welcomed p.facts) p
 after run (Sent peer bytes) older p = sent p.place p.facts
 after run (Took peer bytes) older p = at (Taken peer bytes) p

@@ -1,6 +1,6 @@
 -- How the variables of a relay's run stand for its history.
 use Rattle.std.specs.Prelude.{◌≡◌, ◌≢◌, ◌≤◌, ◌<◌, ◌+◌, ℕ, List, [], ◌∷◌, ◌++◌, All, Some, None, IfSome, ◌⊎◌, Result}
-use Rattle.std.specs.Prelude.{MatchResult, IfErr, ⊤}
+use Rattle.std.specs.Prelude.{Option, MatchResult, OnOk, IfErr, ⊤}
 use Rattle.css_model.specs.declared.TheConstants.{LIMIT}
 use Rattle.css_model.specs.declared.Kind.TheVariants as kind
 use Rattle.css_model.specs.declared.Why.{Why}
@@ -11,13 +11,13 @@ use Rattle.css_outside.specs.declared.calls.Clocked.{Clocked}
 use Rattle.css_companion.specs.Meanings.{kind_of}
 use Rattle.css_companion.specs.Standing.{StandsFor, own_of}
 use Rattle.css_relay.specs.Relays.{Relay, wc_url_of}
-use Rattle.css_drive.specs.CompanionStanding.{Shown, IsCut, asked_after}
+use Rattle.css_drive.specs.CompanionStanding.{Shown, shown, IsCut, asked_after}
 use Rattle.css_drive.specs.Ends.{CountsNetFault, CountsDialFaults}
 use Rattle.css_drive.specs.Proper.{Due}
 use Rattle.css_drive.specs.TvRan.{AreNumbered}
 use Rattle.css_drive.specs.declared.driven.Driven.{Driven}
 use Rattle.css_drive.specs.declared.driven.Driven.TheVariants as driven
-use Rattle.css_drive_relay.specs.Places.{Place, Greeting, Telling, Asked, Dropping, Over, Facts, Progress, beginning}
+use Rattle.css_drive_relay.specs.Places.{Place, Greeting, Telling, Asked, Dropping, Over, Facts, Progress}
 use Rattle.css_drive_relay.specs.Places.{progress_of, hung_up, without_first, telling}
 use Rattle.css_drive_relay.specs.Ran.{RelayRan}
 use Rattle.css_drive_relay.specs.Due.{due_at, final, from_hang_ups, IsProperRelay}
@@ -76,10 +76,6 @@ KnowsPeers p history = All (Came history) p.facts.peers × All (Came history) (n
 abbrev pub stood : Live → Place → Progress
 stood live place = record { facts = facts_in live; place = place }
 
--- the relay just listens
-abbrev pub listening : Progress
-listening = record { facts = beginning.facts; place = Asked [] }
-
 -- The run has this history since `start`, it is proper, and it has come so far. Its sessions came in order of peer. No
 -- call other than a dial has failed.
 pub record Runs (run : RelayRun) (start now : Shown) (p : Progress) (history : History) : Type 0 where
@@ -102,63 +98,72 @@ abbrev pub visiting : Visit → List ℕ → Facts → Place
 visiting (visit.Tell text) left f = telling text left f
 visiting visit.Hear left f = Asked left
 
--- ---- after a part of the loop
--- The run came so far.
-pub record IsAt (run : RelayRun) (start now : Shown) (relay : Relay) (p : Progress) : Type 0 where
-  pub history : History
-  pub stands : Stands run start now relay p history
-
--- The run came to where `to` says what is due.
-pub record Comes (run : RelayRun) (start now : Shown) (relay : Relay) (live : Live) (to : Facts → History → Due)
-    : Type 0 where
-  pub history : History
-  pub place : Place
-  pub stands : Stands run start now relay (stood live place) history
-  pub next : due_at run (facts_in live) history place ≡ to (facts_in live) history
-
 -- the run ended as it may
 pub record Stops (run : RelayRun) (start now : Shown) (ended : Driven) : Type 0 where
   pub ran : RelayRan run start.told now.told ended
   pub counted : CountsNetFault start.counts.faults now.counts.faults ended
 
--- the run came to a place, or it ended
-abbrev pub Arrives : {T : Type 0} → RelayRun → Shown → Shown → Relay → Live → Place → Result T Driven → Type 0
-Arrives run start now relay live place result =
-    MatchResult result (λ _. IsAt run start now relay (stood live place)) (Stops run start now)
+-- ---- parts of the loop
+-- the facts at the place that they say
+abbrev pub placed : (Facts → Place) → Facts → Progress
+placed place f = record { facts = f; place = place f }
 
--- the run came to where this is due, or it ended
-abbrev pub Goes : {T : Type 0} → RelayRun → Shown → Shown → Relay → Live → (Facts → History → Due) → Result T Driven
-    → Type 0
-Goes run start now relay live to result =
-    MatchResult result (λ _. Comes run start now relay live to) (Stops run start now)
+-- the run has come to a place
+abbrev pub IsAt : (Facts → Place) → RelayRun → Shown → Shown → Live → Type 0
+IsAt place run start now live =
+    (history : History) × Stands run start now live.relay (placed place (facts_in live)) history
 
--- ---- single calls
+-- to where `to` says what is due
+abbrev pub Comes : (Facts → History → Due) → RelayRun → Shown → Shown → Live → Type 0
+Comes to run start now live =
+    (history : History) × (place : Place) × Stands run start now live.relay (stood live place) history
+    × (due_at run (facts_in live) history place ≡ to (facts_in live) history)
+
+-- A part leads from this progress to where `to` says, or the run ends.
+abbrev pub Leads : {O T : Type 0} → (O → Option History) → (O → Counts) → RelayRun → O → O → Live → Live
+    → (Facts → Progress) → (RelayRun → Shown → Shown → Live → Type 0) → Result T Driven → Type 0
+Leads told counts run old new was is from to result = (start : Shown) (history : History)
+    → Stands run start (shown (told old) (counts old)) was.relay (from (facts_in was)) history
+    → MatchResult result (λ _. to run start (shown (told new) (counts new)) is)
+    (Stops run start (shown (told new) (counts new)))
+
+-- The same from where `from` says what is due.
+abbrev pub Goes : {O T : Type 0} → (O → Option History) → (O → Counts) → RelayRun → O → O → Live → Live
+    → (Facts → History → Due) → (RelayRun → Shown → Shown → Live → Type 0) → Result T Driven → Type 0
+Goes told counts run old new was is from to result = (start : Shown) (history : History) (at : Place)
+    → Stands run start (shown (told old) (counts old)) was.relay (stood was at) history
+    → due_at run (facts_in was) history at ≡ from (facts_in was) history
+    → MatchResult result (λ _. to run start (shown (told new) (counts new)) is)
+    (Stops run start (shown (told new) (counts new)))
+
+-- What every stage of a turn leaves as it is. Failed dials are counted, the relay knows no reading above the last one,
+-- and an end comes in the midst of the turn.
+pub record Keeps {T : Type 0} (old new : Counts) (before now : Live) (result : Result T Driven) : Type 0 where
+  pub made : now.made ≡ before.made
+  pub dialled : now.cii ≡ None → before.cii ≡ None
+  pub dials : old.dial_faults ≤ new.dial_faults
+  pub floor : before.relay.companion.client.floor ≤ old.last
+      → OnOk result (now.relay.companion.client.floor ≤ new.last)
+  pub cut : IfErr result IsCut
+
 -- The clock was read, and where the machine slept the relay knows.
-pub record HasRead (old new : Shown) (before now : Live) (was is : Relay) (why : Why) (clocked : Clocked)
-    : Type 0 where
+pub record HasRead (old new : Shown) (before now : Live) (why : Why) (clocked : Clocked) : Type 0 where
   pub told : new.told ≡ with_entries (clock_entries why clocked) old.told
   pub faults : new.counts.faults ≡ old.counts.faults
   pub peers : new.counts.peers ≡ old.counts.peers
   pub last : new.counts.last ≡ clocked.reading
   pub below : clocked.reading < LIMIT
-  pub floor : is.companion.client.floor ≤ clocked.reading
-  pub known : (run : RelayRun) (history : History) → Knows run was history
-      → Knows run is (sleep_entries clocked.slept ++ history)
+  pub floor : now.relay.companion.client.floor ≤ clocked.reading
+  pub known : (run : RelayRun) (history : History) → Knows run before.relay history
+      → Knows run now.relay (sleep_entries clocked.slept ++ history)
   pub only : facts_in now ≡ record (facts_in before) { asked = asked_after clocked.slept before.asked }
-
--- What every stage of a turn leaves as it is. Failed dials are counted, and an end comes in the midst of the turn.
-pub record Keeps {T : Type 0} (old new : Counts) (before now : Live) (result : Result T Driven) : Type 0 where
-  pub made : now.made ≡ before.made
-  pub dialled : now.cii ≡ None → before.cii ≡ None
-  pub dials : old.dial_faults ≤ new.dial_faults
-  pub cut : IfErr result IsCut
 
 -- ---- the end
 -- The run came to where these sessions are to be hung up, and then it ends.
-pub record HangsUp (run : RelayRun) (start now : Shown) (relay : Relay) (live : Live) (left : List ℕ) : Type 0 where
+pub record HangsUp (run : RelayRun) (start now : Shown) (live : Live) (left : List ℕ) : Type 0 where
   pub history : History
   pub place : Place
-  pub stands : Stands run start now relay (stood live place) history
+  pub stands : Stands run start now live.relay (stood live place) history
   pub next : due_at run (facts_in live) history place ≡ from_hang_ups (final (facts_in live)) left
   pub after : hung_up place (facts_in live) ≡ Over (without_first left)
 

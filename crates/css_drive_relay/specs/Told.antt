@@ -1,6 +1,6 @@
 -- What a relay's run told an accepted session, beside what the session was to be told by what the relay published.
-use Rattle.std.specs.Prelude.{◌≡◌, ◌≤◌, ℕ, ◌==◌, ◌&&◌, List, [], ◌∷◌, ◌++◌, length, Bool, true, false, if◌then◌else◌}
-use Rattle.std.specs.Prelude.{Option, Some, None, option_map, unwrap_or}
+use Rattle.std.specs.Prelude.{◌≡◌, ◌≤◌, ℕ, ◌==◌, ◌&&◌, ◌||◌, List, [], ◌∷◌, ◌++◌, length, Bool, true, false}
+use Rattle.std.specs.Prelude.{if◌then◌else◌, Option, Some, None, option_map, unwrap_or}
 use Rattle.css_model.specs.History.{Entry, History, Accepted, Heard}
 use Rattle.css_cii.specs.States.{empty}
 use Rattle.css_cii.specs.declared.state.State.{State}
@@ -10,7 +10,6 @@ use Rattle.css_companion.specs.declared.fault.CompanionFault.{CompanionFault}
 use Rattle.css_relay.specs.Relays.{wc_url_of, relayed_state}
 use Rattle.css_drive.specs.CompanionDue.{refusal_of}
 use Rattle.css_drive.specs.Proper.{Ends}
-use Rattle.css_drive.specs.TvPeers.{has}
 use Rattle.css_drive.specs.TvRan.{AreNumbered}
 use Rattle.css_drive.specs.TvTold.{sent_to, is_gone, lost}
 use Rattle.css_drive.specs.declared.driven.Driven.{Driven}
@@ -61,6 +60,11 @@ abbrev pub while_open : Option State → Bool → Option State
 while_open None is_open = None
 while_open (Some state) true = Some state
 while_open (Some state) false = None
+
+-- whether a peer is among these
+abbrev pub has : ℕ → List ℕ → Bool
+has peer [] = false
+has peer (other ∷ peers) = (other == peer) || has peer peers
 
 -- whether a peer's session is open
 abbrev pub is_open : RelayRun → ℕ → History → Bool

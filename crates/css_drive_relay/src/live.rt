@@ -1,11 +1,68 @@
+//! What a relay's run keeps from call to call, among it what the relay published, and the texts that tell it.
 ghost use Rattle.std.specs.Prelude.{◌≡◌, ◌≤◌, ◌<◌, IfOk};
 ghost use Rattle.std.specs.Option.{ForSome};
+ghost use Rattle.css_cii.specs.Texts.{IsUtf8State};
+ghost use Rattle.css_sessions.specs.Kept as kept;
 
-use crate::published::Published;
-use css_num::Memory;
+use css_cii::{State, diff, full, write_message};
+use css_num::{Memory, Text};
+use css_relay::Relay;
+use std::alloc::Global;
+use std::marker::Model;
+
+/// A state that was published. Its texts are UTF-8.
+#[derive(Drop)]
+pub struct Published {
+    state: State,
+}
+
+impl Model for Published {
+    ghost use Rattle.css_cii.specs.Texts.{IsUtf8State};
+    ghost use Rattle.css_cii.specs.declared.state.State.{State as Known};
+
+    ghost Value = { Known };
+
+    ghost view = { λ published. published.state };
+
+    ghost invariant = { λ published. IsUtf8State published.state };
+}
+
+impl Published {
+    /// Publishes a state.
+    pub fn new(state: State) -> Published
+        requires { IsUtf8State state }
+        ensures { result ≡ state }
+    {
+        Published { state }
+    }
+
+    /// The message that tells all nine properties.
+    #[tactic(auto, unfolding(css_sessions::specs::Kept::full_text))]
+    pub fn full_text(&self, alloc: Global) -> Result<Text, Memory>
+        ensures { IfOk result (λ text. text ≡ kept.full_text self.now) }
+    {
+        let change = full(&self.state)?;
+        write_message(alloc, &change)
+    }
+
+    /// The message that tells the properties in which a newer state differs, or None where the two are equal.
+    #[tactic(auto, unfolding(css_sessions::specs::Kept::difference_text))]
+    pub fn news(&self, alloc: Global, newer: &Published) -> Result<Option<Text>, Memory>
+        ensures { IfOk result (λ text. text ≡ kept.difference_text self.now newer.now) }
+    {
+        let change = diff(&self.state, &newer.state)?;
+        if change.is_empty() {
+            return Ok(None);
+        }
+        Ok(Some(write_message(alloc, &change)?))
+    }
+}
 
 /// What a relay's run keeps from call to call.
+#[derive(Drop)]
 pub struct Live {
+    pub alloc: Global,
+    pub relay: Relay,
     /// How many turns were begun.
     pub made: u64,
     /// The reading of the first turn.
@@ -27,28 +84,4 @@ pub struct Live {
     pub ghost first_made: { ForSome first (λ reading. 1 ≤ made) },
     pub ghost asked_below: { ForSome asked (λ reading. reading < 4294967296000000000) },
     pub ghost turn_below: { ForSome turn (λ reading. reading < 4294967296000000000) },
-}
-
-// By hand: a derived drop is opened at each exit of each caller's proof.
-impl Drop for Live {
-    fn drop(self) {
-        let Live {
-            made: _,
-            first: _,
-            turn: _,
-            asked: _,
-            cii: _,
-            wc: _,
-            television: _,
-            state: _,
-            peers: _,
-        } = self;
-    }
-}
-
-/// The accepted sessions that are open.
-pub(crate) fn accepted(live: &Live) -> Result<Vec<u32>, Memory>
-    ensures { IfOk result (λ peers. peers.items ≡ live.now.peers.items) }
-{
-    Ok(live.peers.clone()?)
 }

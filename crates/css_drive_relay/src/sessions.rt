@@ -1,31 +1,32 @@
-//! What a turn of a relay does with sessions: those that were opened, the television's text, and texts of the others.
-ghost use Rattle.std.specs.Prelude.{◌≡◌, ◌≤◌, ◌∷◌, ℕ, List, OnOk, [], IfErr, Some};
-ghost use Rattle.std.specs.Prelude.{None, MatchResult, true};
+//! What a relay does with sessions: those that were opened, the television's text, texts of the others, and their end.
+ghost use Rattle.std.specs.Prelude.{◌≡◌, ◌≤◌, ◌∷◌, ◌⊎◌, ℕ, List, [], length, true, false, Some, None, OnOk, IfOk};
+ghost use Rattle.std.specs.Prelude.{IfErr, MatchResult};
 ghost use Rattle.css_model.specs.History as entries;
 ghost use Rattle.css_model.specs.History.{History};
 ghost use Rattle.css_model.specs.declared.Kind.TheVariants as kinds;
 ghost use Rattle.css_companion.specs.Meanings.{kind_of};
-ghost use Rattle.css_relay.specs.Relays.{Relay as KnownRelay, relayed_state};
+ghost use Rattle.css_relay.specs.Relays.{relayed_state};
 ghost use Rattle.css_drive.specs.CompanionDue.{refusal_of};
 ghost use Rattle.css_drive.specs.CompanionStanding.{Shown, shown, IsCut, IsRefusal};
+ghost use Rattle.css_drive.specs.CompanionTurns.{goes_on};
+ghost use Rattle.css_drive_relay.specs.Due.{final};
 ghost use Rattle.css_drive_relay.specs.Places as places;
 ghost use Rattle.css_drive_relay.specs.Places.{Served, Asked, welcomed, published};
-ghost use Rattle.css_drive_relay.specs.Standing.{facts_in, stood, Stands, Knows, Arrives, Keeps, visiting};
+ghost use Rattle.css_drive_relay.specs.Standing.{facts_in, placed, stood, visiting};
+ghost use Rattle.css_drive_relay.specs.Standing.{IsAt, Keeps, Knows, Leads, Stands, Stops};
 
-use crate::calls::or_memory;
 use crate::config::RelayRun;
-use crate::live::{Live, accepted};
-use crate::published::Published;
+use crate::live::{Live, Published};
+use crate::stages::or_memory;
 use css_drive::Driven;
 use css_drive::calls::{end_of, hang_up, refused, send_text, take_text};
-use css_num::Text;
+use css_num::{Memory, Text};
 use css_outside::{Heard, Kind, Outside, Wrote};
 use css_relay::{CompanionEvent, Relay};
-use std::alloc::Global;
 
 /// What is done with each accepted session.
 #[derive(Drop)]
-pub(crate) enum Visit {
+pub enum Visit {
     /// It is told this text.
     Tell(Text),
     /// It is asked for one.
@@ -34,7 +35,8 @@ pub(crate) enum Visit {
 
 /// An accepted session is over.
 fn forget(live: &mut Live, peer: u32)
-    ensures { facts_in live.new ≡ places.lost peer (facts_in live.old) }
+    ensures facts { facts_in live.new ≡ places.lost peer (facts_in live.old) }
+    ensures relay { live.new.relay ≡ live.old.relay }
 {
     live.peers.retain(|other| *other != peer);
 }
@@ -50,22 +52,12 @@ fn is_kept(kind: Kind, count: usize) -> bool
 }
 
 /// Tells a session the state that was opened.
-fn greet<O: Outside>(
-    alloc: Global,
-    run: &RelayRun,
-    live: &mut Live,
-    outside: &mut O,
-    peer: u32,
-) -> Result<(), Driven>
-    ensures goes { (start : Shown) (relay : KnownRelay) (history : History)
-        → Stands run.now start (shown (O.told outside.old) (O.counts outside.old)) relay
-        (places.opened_if true peer (facts_in live.old)) history
-        → Arrives run.now start (shown (O.told outside.new) (O.counts outside.new)) relay live.new
-        (welcomed (facts_in live.new)) result }
-    ensures last { OnOk result ((O.counts outside.new).last ≡ (O.counts outside.old).last) }
+fn greet<O: Outside>(live: &mut Live, outside: &mut O, peer: u32) -> Result<(), Driven>
+    ensures goes { (run : RelayRun) → Leads O.told O.counts run outside.old outside.new live.old live.new
+        (places.opened_if true peer) (IsAt welcomed) result }
     ensures keeps { Keeps (O.counts outside.old) (O.counts outside.new) live.old live.new result }
 {
-    let text = or_memory(live.state.full_text(alloc))?;
+    let text = or_memory(live.state.full_text(live.alloc))?;
     or_memory(live.peers.push(peer))?;
     match send_text(outside, peer, text.bytes())? {
         Wrote::Sent => {}
@@ -75,17 +67,9 @@ fn greet<O: Outside>(
 }
 
 /// Takes the session that a peer opened, if one did: greets it, or hangs it up.
-pub(crate) fn welcome<O: Outside>(
-    alloc: Global,
-    run: &RelayRun,
-    live: &mut Live,
-    outside: &mut O,
-) -> Result<(), Driven>
-    ensures goes { (start : Shown) (relay : KnownRelay) (history : History)
-        → Stands run.now start (shown (O.told outside.old) (O.counts outside.old)) relay (stood live.old Served) history
-        → Arrives run.now start (shown (O.told outside.new) (O.counts outside.new)) relay live.new
-        (welcomed (facts_in live.new)) result }
-    ensures last { OnOk result ((O.counts outside.new).last ≡ (O.counts outside.old).last) }
+pub fn welcome<O: Outside>(live: &mut Live, outside: &mut O) -> Result<(), Driven>
+    ensures goes { (run : RelayRun) → Leads O.told O.counts run outside.old outside.new live.old live.new
+        (placed (λ f. Served)) (IsAt welcomed) result }
     ensures keeps { Keeps (O.counts outside.old) (O.counts outside.new) live.old live.new result }
 {
     match outside.accept() {
@@ -93,7 +77,7 @@ pub(crate) fn welcome<O: Outside>(
         Ok(None) => Ok(()),
         Ok(Some((peer, kind))) => {
             if is_kept(kind, live.peers.len()) {
-                return greet(alloc, run, live, outside, peer);
+                return greet(live, outside, peer);
             }
             hang_up(outside, peer)
         }
@@ -102,18 +86,14 @@ pub(crate) fn welcome<O: Outside>(
 
 /// Visits an accepted session. A text of it ends it.
 fn visit_one<O: Outside>(
-    run: &RelayRun,
     live: &mut Live,
     outside: &mut O,
     peer: u32,
     what: &Visit,
 ) -> Result<(), Driven>
-    ensures goes { (start : Shown) (relay : KnownRelay) (history : History) (left : List ℕ)
-        → Stands run.now start (shown (O.told outside.old) (O.counts outside.old)) relay
-        (stood live.old (visiting what.now (peer ∷ left) (facts_in live.old))) history
-        → Arrives run.now start (shown (O.told outside.new) (O.counts outside.new)) relay live.new
-        (visiting what.now left (facts_in live.new)) result }
-    ensures last { OnOk result ((O.counts outside.new).last ≡ (O.counts outside.old).last) }
+    ensures goes { (run : RelayRun) (left : List ℕ)
+        → Leads O.told O.counts run outside.old outside.new live.old live.new
+        (placed (visiting what.now (peer ∷ left))) (IsAt (visiting what.now left)) result }
     ensures keeps { Keeps (O.counts outside.old) (O.counts outside.new) live.old live.new result }
 {
     match what {
@@ -140,50 +120,32 @@ fn visit_one<O: Outside>(
 }
 
 /// Visits each accepted session.
-pub(crate) fn visit_all<O: Outside>(
-    run: &RelayRun,
-    live: &mut Live,
-    outside: &mut O,
-    what: &Visit,
-) -> Result<(), Driven>
-    ensures goes { (start : Shown) (relay : KnownRelay) (history : History)
-        → Stands run.now start (shown (O.told outside.old) (O.counts outside.old)) relay
-        (stood live.old (visiting what.now live.old.peers.items (facts_in live.old))) history
-        → Arrives run.now start (shown (O.told outside.new) (O.counts outside.new)) relay live.new
-        (visiting what.now [] (facts_in live.new)) result }
-    ensures last { OnOk result ((O.counts outside.new).last ≡ (O.counts outside.old).last) }
+pub fn visit_all<O: Outside>(live: &mut Live, outside: &mut O, what: &Visit) -> Result<(), Driven>
+    ensures goes { (run : RelayRun) → Leads O.told O.counts run outside.old outside.new live.old live.new
+        (placed (visiting what.now live.old.peers.items)) (IsAt (visiting what.now [])) result }
     ensures keeps { Keeps (O.counts outside.old) (O.counts outside.new) live.old live.new result }
 {
-    let left = or_memory(accepted(live))?;
+    let left = or_memory(live.peers.clone())?;
     for peer in &left {
-        visit_one(run, live, outside, *peer, what)?;
+        visit_one(live, outside, *peer, what)?;
     }
     Ok(())
 }
 
 /// Publishes what the relay tells, and tells each accepted session what is new of it.
-fn publish<O: Outside>(
-    alloc: Global,
-    run: &RelayRun,
-    live: &mut Live,
-    relay: &Relay,
-    outside: &mut O,
-) -> Result<(), Driven>
-    ensures goes { (start : Shown) (history : History)
-        → Stands run.now start (shown (O.told outside.old) (O.counts outside.old)) relay.now
-        (published (relayed_state relay.now.wc_url relay.now.companion.state) (facts_in live.old)) history
-        → Arrives run.now start (shown (O.told outside.new) (O.counts outside.new)) relay.now live.new
-        (Asked live.new.peers.items) result }
-    ensures last { OnOk result ((O.counts outside.new).last ≡ (O.counts outside.old).last) }
+fn publish<O: Outside>(live: &mut Live, outside: &mut O) -> Result<(), Driven>
+    ensures goes { (run : RelayRun) → Leads O.told O.counts run outside.old outside.new live.old live.new
+        (published (relayed_state live.old.relay.wc_url live.old.relay.companion.state))
+        (IsAt (λ f. Asked f.peers)) result }
     ensures keeps { Keeps (O.counts outside.old) (O.counts outside.new) live.old live.new result }
 {
-    let told = or_memory(relay.relayed())?;
+    let told = or_memory(live.relay.relayed())?;
     let state = Published::new(told);
-    let change = or_memory(live.state.news(alloc, &state))?;
+    let change = or_memory(live.state.news(live.alloc, &state))?;
     live.state = state;
     match change {
         None => Ok(()),
-        Some(text) => visit_all(run, live, outside, &Visit::Tell(text)),
+        Some(text) => visit_all(live, outside, &Visit::Tell(text)),
     }
 }
 
@@ -204,20 +166,9 @@ fn take_in(relay: &mut Relay, text: Text) -> Result<(), Driven>
 }
 
 /// Hears the television's session, where it is open. What is new is told to each accepted session.
-pub(crate) fn hear_television<O: Outside>(
-    alloc: Global,
-    run: &RelayRun,
-    live: &mut Live,
-    relay: &mut Relay,
-    outside: &mut O,
-) -> Result<(), Driven>
-    requires { relay.old.companion.client.floor ≤ (O.counts outside.old).last }
-    ensures goes { (start : Shown) (history : History)
-        → Stands run.now start (shown (O.told outside.old) (O.counts outside.old)) relay.old
-        (stood live.old (welcomed (facts_in live.old))) history
-        → Arrives run.now start (shown (O.told outside.new) (O.counts outside.new)) relay.new live.new
-        (Asked live.new.peers.items) result }
-    ensures floor { OnOk result (relay.new.companion.client.floor ≤ (O.counts outside.new).last) }
+pub fn hear_television<O: Outside>(live: &mut Live, outside: &mut O) -> Result<(), Driven>
+    ensures goes { (run : RelayRun) → Leads O.told O.counts run outside.old outside.new live.old live.new
+        (placed welcomed) (IsAt (λ f. Asked f.peers)) result }
     ensures keeps { Keeps (O.counts outside.old) (O.counts outside.new) live.old live.new result }
 {
     let Some(peer) = live.television else {
@@ -231,8 +182,73 @@ pub(crate) fn hear_television<O: Outside>(
             Ok(())
         }
         Ok(Heard::Text(text)) => {
-            take_in(relay, text)?;
-            publish(alloc, run, live, relay, outside)
+            take_in(&mut live.relay, text)?;
+            publish(live, outside)
         }
     }
+}
+
+/// How many peers come before one.
+fn place(peers: &[u32], peer: u32) -> usize
+    ensures value { result ≡ places.place peer peers.now }
+    ensures within { result ≤ length peers.now }
+{
+    for (i, other) in peers.iter().enumerate() {
+        if *other >= peer {
+            return i;
+        }
+    }
+    peers.len()
+}
+
+/// Adds a peer before the first greater one.
+fn insert(peers: &mut Vec<u32>, peer: u32) -> Result<(), Memory>
+    ensures { OnOk result (peers.new.items ≡ places.with_peer peer peers.old.items) }
+{
+    let at = place(peers.as_slice(), peer);
+    peers.insert(at, peer)?;
+    Ok(())
+}
+
+/// All open sessions in order of peer, the television's among them.
+fn all_open(live: &Live) -> Result<Vec<u32>, Memory>
+    ensures { IfOk result (λ peers. peers.items ≡ places.all_open (facts_in live.now)) }
+{
+    let mut peers = live.peers.clone()?;
+    if let Some(television) = live.television {
+        insert(&mut peers, television)?;
+    }
+    Ok(peers)
+}
+
+/// How a run ends whose turns are made.
+fn ending(live: &Live) -> Driven
+    ensures { result ≡ final (facts_in live.now) }
+{
+    if live.cii.is_some() || live.wc.is_some() {
+        Driven::Done
+    } else {
+        Driven::Unreachable { turns: live.made }
+    }
+}
+
+/// Hangs up all open sessions, and ends the run.
+pub fn finish<O: Outside>(live: &Live, outside: &mut O) -> Driven
+    ensures ends { (run : RelayRun) (start : Shown) (history : History)
+        → Stands run start (shown (O.told outside.old) (O.counts outside.old)) live.now.relay
+        (stood live.now (Asked [])) history
+        → goes_on run.limit live.now.first live.now.turn live.now.made ≡ false
+        → Stops run start (shown (O.told outside.new) (O.counts outside.new)) result }
+    ensures dials { (O.counts outside.old).dial_faults ≤ (O.counts outside.new).dial_faults }
+    ensures kind { (result ≡ final (facts_in live.now)) ⊎ IsCut result }
+{
+    let Ok(peers) = all_open(live) else {
+        return Driven::Memory;
+    };
+    for peer in &peers {
+        if let Err(ended) = hang_up(outside, *peer) {
+            return ended;
+        }
+    }
+    ending(live)
 }

@@ -5,19 +5,15 @@ ghost use Rattle.css_outside.specs.Faults.{HasRisen};
 ghost use Rattle.css_outside.specs.Outsides.{Counts};
 ghost use Rattle.css_drive.specs.CompanionStanding.{Shown, shown, IsCut};
 ghost use Rattle.css_drive.specs.CompanionTurns as turns;
-ghost use Rattle.css_drive_relay.specs.Places.{Asked, Begun};
+ghost use Rattle.css_drive_relay.specs.Places.{Asked, Begun, beginning};
 ghost use Rattle.css_drive_relay.specs.Ran.{IsWritable, RelayRan, CountsRelayRun};
-ghost use Rattle.css_drive_relay.specs.Standing.{stood, listening, Stands, Stops, Knows, Arrives};
-ghost use Rattle.css_drive_relay.specs.Standing.{Keeps, HasTried, IsCounted};
+ghost use Rattle.css_drive_relay.specs.Standing.{facts_in, placed, stood, HasTried, IsAt, IsCounted, Keeps, Knows};
+ghost use Rattle.css_drive_relay.specs.Standing.{Leads, Stands, Stops};
 
-use crate::calls::read;
 use crate::config::RelayRun;
-use crate::datagrams::{ask, serve};
-use crate::dials::{dial_cii, dial_wc};
-use crate::hang_ups::finish;
-use crate::live::Live;
-use crate::published::Published;
-use crate::sessions::{Visit, hear_television, visit_all, welcome};
+use crate::live::{Live, Published};
+use crate::sessions::{Visit, finish, hear_television, visit_all, welcome};
+use crate::stages::{ask, dial_cii, dial_wc, read, serve};
 use css_cii::State;
 use css_companion::CompanionConfig;
 use css_drive::Driven;
@@ -29,49 +25,31 @@ use css_relay::Relay;
 use std::alloc::Global;
 
 /// Makes the calls of a turn: to the television, to further companions, and what it hears of all of them.
-fn calls<O: Outside>(
-    alloc: Global,
-    run: &RelayRun,
-    live: &mut Live,
-    relay: &mut Relay,
-    outside: &mut O,
-) -> Result<(), Driven>
-    requires floor { relay.old.companion.client.floor ≤ (O.counts outside.old).last }
-    ensures goes { (start : Shown) (history : History)
-        → Stands run.now start (shown (O.told outside.old) (O.counts outside.old)) relay.old (stood live.old Begun)
-        history
-        → Arrives run.now start (shown (O.told outside.new) (O.counts outside.new)) relay.new live.new
-        (Asked []) result }
-    ensures floor { OnOk result (relay.new.companion.client.floor ≤ (O.counts outside.new).last) }
+fn calls<O: Outside>(run: &RelayRun, live: &mut Live, outside: &mut O) -> Result<(), Driven>
+    requires floor { live.old.relay.companion.client.floor ≤ (O.counts outside.old).last }
+    ensures goes { Leads O.told O.counts run.now outside.old outside.new live.old live.new
+        (placed (λ f. Begun)) (IsAt (λ f. Asked [])) result }
     ensures keeps { Keeps (O.counts outside.old) (O.counts outside.new) live.old live.new result }
     ensures tried { OnOk result (live.new.cii ≡ None
         → HasRisen (O.counts outside.old).dial_faults (O.counts outside.new).dial_faults) }
 {
     dial_cii(run, live, outside)?;
-    dial_wc(alloc, run, live, relay, outside)?;
-    ask(run, live, relay, outside)?;
-    serve(run, live, relay, outside)?;
-    welcome(alloc, run, live, outside)?;
-    hear_television(alloc, run, live, relay, outside)?;
-    visit_all(run, live, outside, &Visit::Hear)
+    dial_wc(run, live, outside)?;
+    ask(run, live, outside)?;
+    serve(live, outside)?;
+    welcome(live, outside)?;
+    hear_television(live, outside)?;
+    visit_all(live, outside, &Visit::Hear)
 }
 
 /// Makes a turn. One that is the last by its time ends with its reading.
-fn turn<O: Outside>(
-    alloc: Global,
-    run: &RelayRun,
-    live: &mut Live,
-    relay: &mut Relay,
-    outside: &mut O,
-) -> Result<(), Driven>
-    requires floor { relay.old.companion.client.floor ≤ (O.counts outside.old).last }
+fn turn<O: Outside>(run: &RelayRun, live: &mut Live, outside: &mut O) -> Result<(), Driven>
+    requires floor { live.old.relay.companion.client.floor ≤ (O.counts outside.old).last }
     requires few { live.old.made < 1099511627776 }
-    ensures goes { (start : Shown) (history : History)
-        → Stands run.now start (shown (O.told outside.old) (O.counts outside.old)) relay.old (stood live.old (Asked []))
-        history → turns.goes_on run.now.limit live.old.first live.old.turn live.old.made ≡ true
-        → Arrives run.now start (shown (O.told outside.new) (O.counts outside.new)) relay.new live.new
-        (Asked []) result }
-    ensures floor { OnOk result (relay.new.companion.client.floor ≤ (O.counts outside.new).last) }
+    ensures goes { turns.goes_on run.now.limit live.old.first live.old.turn live.old.made ≡ true
+        → Leads O.told O.counts run.now outside.old outside.new live.old live.new
+        (placed (λ f. Asked [])) (IsAt (λ f. Asked [])) result }
+    ensures floor { OnOk result (live.new.relay.companion.client.floor ≤ (O.counts outside.new).last) }
     ensures made { OnOk result (live.new.made ≡ live.old.made + 1) }
     ensures dials { (O.counts outside.old).dial_faults ≤ (O.counts outside.new).dial_faults }
     ensures tried { (before : Counts) → before.dial_faults ≤ (O.counts outside.old).dial_faults
@@ -79,44 +57,31 @@ fn turn<O: Outside>(
         → OnOk result (HasTried before (O.counts outside.new) live.new) }
     ensures cut { IfErr result IsCut }
 {
-    let reading = read(outside, relay, live, Why::Turn)?.reading;
+    let reading = read(live, outside, Why::Turn)?.reading;
     live.made += 1;
     live.first = Some(live.first.unwrap_or(reading));
     live.turn = Some(reading);
     if is_late(run.limit, live.first, live.turn) {
         return Ok(());
     }
-    calls(alloc, run, live, relay, outside)
+    calls(run, live, outside)
 }
 
-/// The relay of a configuration.
-fn relay_of(alloc: Global, run: &RelayRun) -> Result<Relay, Memory>
+/// The relay of a configuration, before its first turn.
+fn begin(alloc: Global, run: &RelayRun) -> Result<Live, Memory>
     requires { IsWritable run.now }
-    ensures known { IfOk result (λ relay. Knows run.now relay []) }
-    ensures floor { IfOk result (λ relay. relay.companion.client.floor ≡ 0) }
+    ensures known { IfOk result (λ live. Knows run.now live.relay []) }
+    ensures floor { IfOk result (λ live. live.relay.companion.client.floor ≡ 0) }
+    ensures facts { IfOk result (λ live. facts_in live ≡ beginning.facts) }
 {
     let wanted = CompanionConfig {
         selector: run.companion.selector.clone()?,
         stem: run.companion.stem.clone()?,
         local: run.companion.local,
     };
-    Relay::new(alloc, wanted, &run.host, run.port)
-}
-
-/// Makes the turns of a run, once the relay listens.
-fn make_turns<O: Outside>(
-    alloc: Global,
-    run: &RelayRun,
-    relay: &mut Relay,
-    outside: &mut O,
-) -> Driven
-    requires floor { relay.old.companion.client.floor ≤ (O.counts outside.old).last }
-    ensures ends { (start : Shown) (history : History)
-        → Stands run.now start (shown (O.told outside.old) (O.counts outside.old)) relay.old listening history
-        → Stops run.now start (shown (O.told outside.new) (O.counts outside.new)) result }
-    ensures counted { IsCounted (O.counts outside.old).dial_faults (O.counts outside.new).dial_faults result }
-{
-    let mut live = Live {
+    Ok(Live {
+        alloc,
+        relay: Relay::new(alloc, wanted, &run.host, run.port)?,
         made: 0,
         first: None,
         turn: None,
@@ -126,13 +91,25 @@ fn make_turns<O: Outside>(
         television: None,
         state: Published::new(State::empty()),
         peers: Vec::new(alloc),
-    };
+    })
+}
+
+/// Makes the turns of a run, once the relay listens.
+fn make_turns<O: Outside>(run: &RelayRun, live: &mut Live, outside: &mut O) -> Driven
+    requires floor { live.old.relay.companion.client.floor ≤ (O.counts outside.old).last }
+    requires fresh { live.old.made ≡ 0 }
+    ensures ends { (start : Shown) (history : History)
+        → Stands run.now start (shown (O.told outside.old) (O.counts outside.old)) live.old.relay
+        (stood live.old (Asked [])) history
+        → Stops run.now start (shown (O.told outside.new) (O.counts outside.new)) result }
+    ensures counted { IsCounted (O.counts outside.old).dial_faults (O.counts outside.new).dial_faults result }
+{
     'turns: while goes_on(run.limit, live.first, live.turn, live.made) {
-        if let Err(ended) = turn(alloc, run, &mut live, relay, outside) {
+        if let Err(ended) = turn(run, live, outside) {
             return ended;
         }
     }
-    finish(run, &live, outside)
+    finish(live, outside)
 }
 
 /// Makes a relay's run: it listens, makes the turns of its limit, and hangs up the sessions that are open then.
@@ -152,11 +129,11 @@ pub fn drive_relay<O: Outside>(alloc: Global, config: RelayRun, outside: &mut O)
     ensures ran { RelayRan config (O.told outside.old) (O.told outside.new) result }
     ensures counted { CountsRelayRun (O.counts outside.old) (O.counts outside.new) result }
 {
-    let Ok(mut relay) = relay_of(alloc, &config) else {
+    let Ok(mut live) = begin(alloc, &config) else {
         return Driven::Memory;
     };
     match outside.listen(&config.host, config.port) {
-        Ok(()) => make_turns(alloc, &config, &mut relay, outside),
+        Ok(()) => make_turns(&config, &mut live, outside),
         Err(fault) => end_of(fault),
     }
 }

@@ -110,6 +110,7 @@ fn outcome(rt: &impl Abort, alloc: Global, tv: &mut Tv, event: Event) -> String 
     let done = match event {
         Event::Delay => return shown(rt, alloc, &delay(tv)),
         Event::IsOpen(peer) => return shown(rt, alloc, &tv.is_open(peer)),
+        Event::NextOpen(last) => return shown(rt, alloc, &tv.next_open(last)),
         Event::Cii(peer) => open(tv, peer, Kind::Cii, &mut out),
         Event::Ts(peer) => open(tv, peer, Kind::Ts, &mut out),
         _ => step(tv, event_of(rt, alloc, event), &mut out),

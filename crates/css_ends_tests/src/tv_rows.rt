@@ -1,7 +1,9 @@
 //! What happens at a television, and what it does: the texts that it sends, each behind its peer, the sessions that it
 //! closes, or why it refuses the event.
 
-use Event::{Cii, Closes, Delay, Hears, IsOpen, Presents, Programme, Timeline, Ts, Viewer};
+use Event::{
+    Cii, Closes, Delay, Hears, IsOpen, NextOpen, Presents, Programme, Timeline, Ts, Viewer,
+};
 use css_player::Command::{self, Change, Seek, Speed};
 
 /// A bound of a presentation: the tick of its timeline at a value of the wall clock, or none.
@@ -25,6 +27,8 @@ pub enum Event {
     Delay,
     /// Asks whether a peer's session is open.
     IsOpen(u32),
+    /// Asks for the first open session after that of a peer, or for the first of all.
+    NextOpen(Option<u32>),
 }
 
 /// What happens, and what is done then.
@@ -78,6 +82,9 @@ const SOUGHT_TO_2: &str =
 pub const WHOLE: &[Row] = &[
     (Cii(3), NOTHING_SHOWN_TO_3),
     (Ts(2), ""),
+    (NextOpen(None), "Some(2)"),
+    (NextOpen(Some(2)), "Some(3)"),
+    (NextOpen(Some(3)), "None"),
     (Hears(2, SETUP), r#"2 {"contentTime":null,"timelineSpeedMultiplier":null,"wallClockTime":"0"}"#),
     (Delay, "None"),
     (Viewer(Speed(1), 9_000), "no programme"),
@@ -88,6 +95,7 @@ pub const WHOLE: &[Row] = &[
     (Viewer(Speed(0), 11_000), STANDS_TO_2),
     (Viewer(Seek(-1), 12_000), SOUGHT_TO_2),
     (Closes(2), ""),
+    (NextOpen(Some(1)), "Some(3)"),
     (Viewer(Speed(1), 13_000), ""),
     (Programme("dvb://1.2.4"), ""),
     (Cii(1), SHOWN_TO_1),

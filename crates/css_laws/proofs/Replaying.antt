@@ -39,7 +39,7 @@ use Rattle.css_replay.specs.Replayed.{replayed, version_of}
 use Rattle.css_laws.proofs.GeneratedTexts.{line_short, line_text, line_read, header_short, header_silent, texts_of}
 use Rattle.css_laws.proofs.GeneratedTexts.{text_meant, text-meant, lines-read}
 use Rattle.css_laws.proofs.Plain.{IsShort, IsLineText, line-plain}
-use Rattle.css_replay.proofs.Promise.{printed_is}
+use Rattle.css_replay.proofs.Texts.{printed_is}
 
 -- ---- what is printed
 -- the line of a report, if there is one

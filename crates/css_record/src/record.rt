@@ -8,7 +8,7 @@ use crate::recorder::{Recorder, put};
 use css_audit::print_header;
 use css_drive::{DriveConfig, Driven, companion_of, drive};
 use css_num::{Memory, Text};
-use css_outside::{OutFault, Outside, Sink};
+use css_outside::{Outside, Sink};
 use std::alloc::Global;
 
 /// The header of a record, with its line feed.
@@ -41,17 +41,14 @@ pub fn drive_record<K: Sink, O: Outside>(
 {
     match companion_of(alloc, &config) {
         Err(Memory) => Driven::Memory,
-        Ok(mut companion) => match put(sink, header_of(alloc, &config)) {
-            Err(OutFault::Failed(_)) => Driven::WriteFault,
-            Err(OutFault::Memory) => Driven::Memory,
-            Ok(()) => {
-                let mut recorder = Recorder {
-                    alloc,
-                    sink,
-                    written: Ok(()),
-                };
-                drive(alloc, &config, &mut companion, outside, &mut recorder)
-            }
-        },
+        Ok(mut companion) => {
+            let written = put(sink, header_of(alloc, &config));
+            let mut recorder = Recorder {
+                alloc,
+                sink,
+                written,
+            };
+            drive(alloc, &config, &mut companion, outside, &mut recorder)
+        }
     }
 }

@@ -1,9 +1,9 @@
 //! The observer that writes a run's record.
-ghost use Rattle.std.specs.Prelude.{◌≡◌, ◌++◌, ◌∷◌, [], ℕ, List, Result, IfOk};
+ghost use Rattle.std.specs.Prelude.{◌≡◌, ◌++◌, ◌∷◌, [], ℕ, List, Result, IfOk, false};
 ghost use Rattle.css_audit.specs.Printed.{line_text};
 ghost use Rattle.css_drive.specs.Notes as notes;
 ghost use Rattle.css_drive.specs.Notes.{Happened, Note, Reported, Sees, Standpoint, slept_notes};
-ghost use Rattle.css_record.specs.Lines.{text_of};
+ghost use Rattle.css_record.specs.Lines.{lines_of, text_in, text_of};
 ghost use Rattle.css_record.specs.Runs.{Saw, Writes, over};
 
 use css_audit::{RecordLine, print_line};
@@ -30,46 +30,46 @@ pub(crate) fn put<K: Sink>(sink: &mut K, text: Result<Text, Memory>) -> Result<(
     write_all(sink, text?.bytes())
 }
 
-/// A line with its line feed.
-fn line_of(alloc: Global, line: RecordLine) -> Result<Text, Memory>
-    ensures { IfOk result (λ text. text ≡ line_text line ++ 10 ∷ []) }
+/// A line with its line feed, after that of a sleep where one was told.
+fn line_of(alloc: Global, slept: bool, line: RecordLine) -> Result<Text, Memory>
+    ensures awake { slept ≡ false → IfOk result (λ text. text ≡ line_text line ++ 10 ∷ []) }
+    ensures lines { (from : Standpoint)
+        → IfOk result (λ text. text ≡ text_in (line ∷ lines_of (slept_notes from slept))) }
 {
-    let mut text = print_line(alloc, &line)?;
+    let mut text = Text::new(alloc);
+    if slept {
+        text.push(b"slept\n")?;
+    }
+    text.push(print_line(alloc, &line)?.bytes())?;
     text.push(b"\n")?;
     Ok(text)
 }
 
-/// These lines, after that of a sleep where one was told.
-fn after_sleep(alloc: Global, slept: bool, lines: Result<Text, Memory>) -> Result<Text, Memory>
-    ensures { (from : Standpoint) → (bytes : List ℕ) → IfOk lines (λ text. text ≡ bytes)
-        → IfOk result (λ text. text ≡ text_of (slept_notes from slept) ++ bytes) }
-{
-    if !slept {
-        return lines;
-    }
-    let mut text = line_of(alloc, RecordLine::Slept)?;
-    text.push(lines?.bytes())?;
-    Ok(text)
-}
-
 /// The lines of a turn and of its report.
-fn report_lines(alloc: Global, reading: u64, number: u64, report: &Report) -> Result<Text, Memory>
+fn report_lines(
+    alloc: Global,
+    clocked: &Clocked,
+    number: u64,
+    report: &Report,
+) -> Result<Text, Memory>
     ensures { (from : Standpoint) → IfOk result (λ text. text
-        ≡ text_of (Reported from number report.now ∷ Happened from (notes.Turn reading) ∷ [])) }
+        ≡ text_of (Reported from number report.now ∷ notes.turn_notes from clocked.now)) }
 {
-    let mut text = line_of(alloc, RecordLine::Turn { reading })?;
+    let reading = clocked.reading;
+    let mut text = line_of(alloc, clocked.slept, RecordLine::Turn { reading })?;
     text.push(b"report ")?;
     text.push(line(alloc, number, report, None)?.bytes())?;
     Ok(text)
 }
 
 /// The line of a datagram that landed.
-fn landed_line(alloc: Global, reading: u64, bytes: &[u8]) -> Result<Text, Memory>
+fn landed_line(alloc: Global, clocked: &Clocked, bytes: &[u8]) -> Result<Text, Memory>
     ensures { (from : Standpoint)
-        → IfOk result (λ text. text ≡ text_of (Happened from (notes.Landed reading bytes.now) ∷ [])) }
+        → IfOk result (λ text. text ≡ text_of (notes.landing_notes from clocked.now bytes.now)) }
 {
+    let reading = clocked.reading;
     let bytes = Text::of(alloc, bytes)?;
-    line_of(alloc, RecordLine::Land { reading, bytes })
+    line_of(alloc, clocked.slept, RecordLine::Land { reading, bytes })
 }
 
 /// The line of a text that came.
@@ -79,8 +79,8 @@ fn heard_line(alloc: Global, session: Session, text: &Text) -> Result<Text, Memo
 {
     let bytes = text.clone()?;
     match session {
-        Session::Cii => line_of(alloc, RecordLine::Cii(bytes)),
-        Session::Ts => line_of(alloc, RecordLine::Ts(bytes)),
+        Session::Cii => line_of(alloc, false, RecordLine::Cii(bytes)),
+        Session::Ts => line_of(alloc, false, RecordLine::Ts(bytes)),
     }
 }
 
@@ -90,18 +90,18 @@ fn closed_line(alloc: Global, session: Session) -> Result<Text, Memory>
         → IfOk result (λ line. line ≡ text_of (Happened from (notes.Closed session) ∷ [])) }
 {
     match session {
-        Session::Cii => line_of(alloc, RecordLine::ClosedCii),
-        Session::Ts => line_of(alloc, RecordLine::ClosedTs),
+        Session::Cii => line_of(alloc, false, RecordLine::ClosedCii),
+        Session::Ts => line_of(alloc, false, RecordLine::ClosedTs),
     }
 }
 
 impl<K: Sink> Recorder<'_, K> {
-    /// Writes these lines, after that of a sleep where one was told.
-    fn write(&mut self, slept: bool, lines: Result<Text, Memory>)
-        ensures { (from : Standpoint) → (newest : List Note) → IfOk lines (λ text. text ≡ text_of newest)
-            → Sees (Saw K.holds K.faults) over self.old self.new (newest ++ slept_notes from slept) }
+    /// Writes the lines of these notes.
+    fn write(&mut self, lines: Result<Text, Memory>)
+        ensures { (newest : List Note) → IfOk lines (λ text. text ≡ text_of newest)
+            → Sees (Saw K.holds K.faults) over self.old self.new newest }
     {
-        self.written = put(self.sink, after_sleep(self.alloc, slept, lines));
+        self.written = put(self.sink, lines);
     }
 }
 
@@ -115,15 +115,12 @@ impl<K: Sink> Observes for Recorder<'_, K> {
     }
 
     fn slept(&mut self) {
-        self.write(false, line_of(self.alloc, RecordLine::Slept));
+        self.write(line_of(self.alloc, false, RecordLine::Slept));
     }
 
     fn turned(&mut self, clocked: &Clocked, _companion: &Companion) {
         let reading = clocked.reading;
-        self.write(
-            clocked.slept,
-            line_of(self.alloc, RecordLine::Turn { reading }),
-        );
+        self.write(line_of(self.alloc, clocked.slept, RecordLine::Turn { reading }));
     }
 
     fn reported(
@@ -133,28 +130,24 @@ impl<K: Sink> Observes for Recorder<'_, K> {
         report: &Report,
         _companion: &Companion,
     ) {
-        let lines = report_lines(self.alloc, clocked.reading, number, report);
-        self.write(clocked.slept, lines);
+        self.write(report_lines(self.alloc, clocked, number, report));
     }
 
     fn dialled(&mut self, _kind: Kind, _peer: Option<u32>) {}
 
     fn asked(&mut self, reading: u64) {
-        self.write(false, line_of(self.alloc, RecordLine::Ask { reading }));
+        self.write(line_of(self.alloc, false, RecordLine::Ask { reading }));
     }
 
     fn landed(&mut self, clocked: &Clocked, bytes: &[u8], _companion: &Companion) {
-        self.write(
-            clocked.slept,
-            landed_line(self.alloc, clocked.reading, bytes),
-        );
+        self.write(landed_line(self.alloc, clocked, bytes));
     }
 
     fn heard(&mut self, session: Session, text: &Text, _companion: &Companion) {
-        self.write(false, heard_line(self.alloc, session, text));
+        self.write(heard_line(self.alloc, session, text));
     }
 
     fn closed(&mut self, session: Session) {
-        self.write(false, closed_line(self.alloc, session));
+        self.write(closed_line(self.alloc, session));
     }
 }

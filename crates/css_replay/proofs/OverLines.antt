@@ -1,7 +1,7 @@
 -- What the status of a run over lines tells of it and of its devices.
-use Rattle.std.proofs.Common.{◌≡◌, ℕ, arith, rules, subst, refl, inl, inr, List}
+use Rattle.std.proofs.Common.{◌≡◌, ℕ, arith, rules, subst, refl, inl, inr, List, ◌++◌}
 use Rattle.std.proofs.lemmas.Grind.{common_steps}
-use Rattle.std.specs.Prelude.{Option, Some, None, ⊤}
+use Rattle.std.specs.Prelude.{Option, Some, None, codes, ⊤}
 use Rattle.css_lines.specs.Meaning.{Meaning, outcome}
 use Rattle.css_lines.specs.Ending.{RanToEnd, RanUntil, SourceCounts, SinkCounts}
 use Rattle.css_lines.specs.declared.reader.Refusal.{Refusal}
@@ -11,9 +11,13 @@ use Rattle.css_replay.specs.declared.status.Status.{Status}
 use Rattle.css_replay.specs.declared.status.Status.TheVariants.{Done, Usage, ReadFault, WriteFault, NetFault}
 use Rattle.css_replay.specs.declared.status.Status.TheVariants.{Unreachable, ChildFault}
 use Rattle.css_replay.specs.Devices.{SourceUse, SinkUse}
-use Rattle.css_replay.specs.Does.{OverLines}
-use Rattle.css_replay.specs.Ended.{CountsReads, CountsWrites, HasNotFailed, IsDoneUnlessMemory, IsNoUsage, TellsNoLive}
-use Rattle.css_replay.specs.Ended.{stop_status}
+use Rattle.css_replay.specs.Ended.{CountsReads, CountsWrites, HasNotFailed, IsDoneUnlessMemory, IsNoUsage, OverLines}
+use Rattle.css_replay.specs.Ended.{TellsNoLive, status_line, status_words, stop_status}
+
+-- the line of a status that has one
+pub line_of_words : (status : Status) → (status ≡ Done → ⊥)
+    → status_line status ≡ codes "css: " ++ status_words status ++ codes "\n"
+line_of_words status none = grind (arith, common_steps)
 
 -- a status that tells why a line is refused, or want of memory
 abbrev pub IsOfLine : Status → Type 0
@@ -34,13 +38,9 @@ pub record EndsLines (r r' w w' : ℕ) (result : Status) : Type 0 where
   pub writes : CountsWrites w w' result
 
 pub line_ends : {r r' w w' : ℕ} (result : Status) → IsOfLine result → r' ≡ r → w' ≡ w → EndsLines r r' w w' result
-line_ends Done of read wrote = absurd of
-line_ends _ of read wrote = search rules
+line_ends result of read wrote = grind (arith, common_steps)
 
 -- ---- a run that read all
-pub done_ends : {r r' w w' : ℕ} → r' ≡ r → w' ≡ w → EndsLines r r' w w' Done
-done_ends read wrote = search rules
-
 pub read_all : {L Cause : Type 0} {meaning : Meaning Cause} {stands : L → List (List ℕ) → Type 0} {lines : L}
     {refused : ℕ → Refusal Cause → Status} {source : SourceUse} {sink : SinkUse}
     → ((bytes : List ℕ) → source.left_old ≡ Some bytes
@@ -48,9 +48,7 @@ pub read_all : {L Cause : Type 0} {meaning : Meaning Cause} {stands : L → List
     → OverLines meaning refused source sink Done
 read_all ran = record {
   no_usage = tt;
-  reads = λ bytes is.
-      let all = ran bytes is in
-      inl (record { done = refl; at_end = all.at_end; accepted = all.accepted; grew = all.grew });
+  reads = λ bytes is. let all = ran bytes is in inl (search rules);
   complete = λ bytes is accepted read written. tt;
 }
 

@@ -1,16 +1,23 @@
--- How far texts are read, what is known of a schedule as far as it is read, what a line answers, and that what is
--- printed for texts keeps the promise.
+-- What is printed for a line that a replay accepts keeps the promise. How far texts are read, what is known of a
+-- schedule as far as it is read, what a line answers, and that what is printed for texts keeps the promise.
 use Rattle.std.proofs.Common.{◌≡◌, ◌≢◌, ℕ, zero, suc, ◌+◌, arith, ap, subst, ◌∙◌, Bool, refl, List, [], ◌∷◌, ◌++◌}
 use Rattle.std.proofs.Common.{length, ◌==◌, ◌⊎◌, inl, inr, rules}
-use Rattle.std.specs.Int.{w8}
-use Rattle.std.specs.Prelude.{ℤ, pos, negsuc, ◌≤ℤ◌, FitsSigned, All, unwrap_or, slice_get, Result, Ok, Err, OnOk}
-use Rattle.std.specs.Prelude.{Option, Some, None}
+use Rattle.std.specs.Prelude.{ℤ, All, unwrap_or, slice_get, Result, Ok, Err, OnOk, Option, Some, None, MatchOption}
 use Rattle.std.specs.Option.{option_map}
 use Rattle.std.proofs.lemmas.Int.{ints}
 use Rattle.std.proofs.lemmas.List.{length-append}
 use Rattle.std.proofs.lemmas.Grind.{common_steps}
 use Rattle.std.proofs.lemmas.Bool.Decides.{nat_tests}
-use Rattle.css_model.specs.WallClock.{IsLocal}
+use Rattle.css_num.specs.Gives.{LeavesBy}
+use Rattle.css_model.specs.WallClock.{IsLocal, Answer, Local, IsLeast, scaled_width, narrowest}
+use Rattle.css_model.proofs.Narrowest.{narrowest_is_least}
+use Rattle.css_outside.specs.Bytes.{IsPrefix}
+use Rattle.css_lines.specs.Answers.{Answers}
+use Rattle.css_lines.specs.declared.reader.Refusal.{Refusal}
+use Rattle.css_lines.specs.declared.reader.Refusal.TheVariants.{Refused}
+use Rattle.css_lines.specs.Meaning.{finish_outcome, reader_outcome, outcome, outcome_so_far}
+use Rattle.css_lines.proofs.Meant.{prefix_refl, prefix_trans}
+use Rattle.css_lines.proofs.Induction.{TakenOf, taken_so_far, taken_in_all}
 use Rattle.css_schedule.specs.declared.fault.LineFault.{LineFault}
 use Rattle.css_schedule.specs.declared.header.CompanionLine.{CompanionLine}
 use Rattle.css_schedule.specs.declared.header.Header.{Header}
@@ -25,42 +32,84 @@ use Rattle.css_schedule.proofs.HeadersInRange.{start_in_range, companion_in_rang
 use Rattle.css_schedule.specs.Lines.{line_in}
 use Rattle.css_schedule.specs.Words.{words_of}
 use Rattle.css_schedule.proofs.InRange.{line_range, line_is_of}
+use Rattle.css_schedule.specs.declared.line.Verb.{Verb}
+use Rattle.css_schedule.specs.declared.line.Verb.TheVariants.{Wall, Print}
+use Rattle.css_companion.specs.Printed as companions
+use Rattle.css_companion.specs.Reports.{HasTickOf}
+use Rattle.css_companion.specs.declared.report.Report.{Report}
+use Rattle.css_companion.specs.declared.report.Report.TheVariants as reports
 use Rattle.css_world.specs.Happened.{Numbered}
-use Rattle.css_world.specs.Standing.{IsNext, World, StandsFor, appended, AreAccepted}
-use Rattle.css_world.specs.Verdicts.{line_meant}
+use Rattle.css_world.specs.Standing.{World, appended, AreAccepted}
+use Rattle.css_world.specs.Verdicts.{line_meant, local_of, IsDeclared, report_at, assigned_at, printed_for, carried_out}
 use Rattle.css_world.specs.declared.fault.WorldFault.{WorldFault}
 use Rattle.css_world.specs.declared.fault.WorldFault.TheVariants.{Memory}
-use Rattle.css_world.proofs.Worlds.{all-head, all-tail}
-use Rattle.css_world.proofs.Truth.{accepted_lines_are_world}
+use Rattle.css_world.proofs.Worlds.{all-head, all-tail, carried_ok, second_ok}
+use Rattle.css_world.proofs.Truth.{accepted_lines_are_world, accepted_lines_are_true}
+use Rattle.css_world.specs.Truth.{IsTrueLine}
 use Rattle.css_replay.specs.Replayed.{Extent, Opening, Outset, Running, Unread, after, declared, next_companion, grown}
 use Rattle.css_replay.specs.Replayed.{reached, read_from, started, with_line, caused, meant_at, ended_at, read_meant}
 use Rattle.css_replay.specs.Replayed.{replayed}
-use Rattle.css_replay.specs.Stands.{IsWell, IsWhole, RunsAt, told_of, Stands}
+use Rattle.css_replay.specs.Stands.{IsWell, IsWhole, RunsAt, told_of}
 use Rattle.css_replay.specs.declared.reader.Cause.{Cause}
 use Rattle.css_replay.specs.declared.reader.Cause.TheVariants.{Form}
-use Rattle.css_replay.specs.declared.reader.Replay.{Replay}
-use Rattle.css_replay.specs.Headline.{AreKept, KeepsPromise, PromiseKept, Promised}
-use Rattle.css_replay.proofs.Promise.{kept_line}
-use Rattle.css_lines.specs.Answers.{Answers}
-use Rattle.css_lines.specs.declared.ending.Stop.{Stop}
-use Rattle.css_lines.specs.declared.reader.Refusal.{Refusal}
-use Rattle.css_lines.specs.declared.reader.Refusal.TheVariants.{Refused}
-use Rattle.css_lines.specs.Ending.{Finishes, Stops}
-use Rattle.css_lines.specs.Lines.{lines_of}
-use Rattle.css_lines.specs.Meaning.{finish_outcome, reader_outcome, outcome, outcome_so_far}
-use Rattle.css_lines.proofs.Meant.{prefix_refl, prefix_trans}
-use Rattle.css_lines.proofs.Induction.{keeps_done, keeps_stop, taken_so_far, taken_in_all}
-use Rattle.css_num.specs.Gives.{LeavesBy}
-use Rattle.css_outside.specs.Bytes.{IsPrefix}
+use Rattle.css_replay.specs.Headline.{AreKept, KeepsPromise, PromiseKept, IsKept, KeepsLine, accepted_before}
+
+-- ---- one line
+-- what is printed for a line that was accepted
+pub printed_is : (header : Header) (older : List Numbered) (now : Numbered) (printed : List ℕ)
+    → carried_out header older now ≡ Ok printed → printed ≡ printed_for header older now now.line.verb
+printed_is header older now printed e = grind (arith, common_steps, second_ok)
+
+module _ (header : Header) (older : List Numbered) (now : Numbered) (printed : List ℕ) where
+  abbrev own : Local
+  own = local_of now.line.who header
+
+  abbrev accepted : List Answer
+  accepted = accepted_before header older now
+
+  -- the promise is kept at `print`
+  kept-print : (reading : ℕ) (o : Option Answer) (report : Report) (position : Option ℤ)
+      → narrowest own reading accepted ≡ o → report_at now.line.who header older reading ≡ report
+      → assigned_at now.line.who header older now.line.w ≡ position
+      → MatchOption o (accepted ≡ []) (IsLeast (λ answer. scaled_width own answer reading) accepted)
+      → printed ≡ companions.line_of now.number report position → HasTickOf report position
+      → IsKept header older now (Print reading) printed
+  kept-print reading o (reports.None why) position so first told least e c = search rules
+  kept-print reading o (reports.Ticks low high) None so first told least e c = absurd c
+  kept-print reading None (reports.Ticks low high) (Some position) so first told least e c =
+      absurd (let none = rw so at first in cc)
+  kept-print reading (Some answer) (reports.Ticks low high) (Some position) so first told least e c =
+      let ticks = rw so at first in inl (search rules)
+
+  -- and at each verb
+  kept-by : (verb : Verb) → now.line.verb ≡ verb → IsTrueLine header older now
+      → printed ≡ printed_for header older now verb → IsKept header older now verb printed
+  kept-by (Wall reading) is truth e =
+      let least = narrowest_is_least own reading accepted in
+      let covers = truth.wall reading is in
+      grind (arith, common_steps)
+  kept-by (Print reading) is truth e =
+      kept-print reading (narrowest own reading accepted) (report_at now.line.who header older reading)
+      (assigned_at now.line.who header older now.line.w) refl refl refl (narrowest_is_least own reading accepted) e
+      (truth.report reading is)
+  kept-by _ is truth e = e
+
+  -- an accepted line keeps the promise
+  pub kept_line : IsDeclared header → AreAccepted header (now ∷ older) → line_meant header older now ≡ Ok printed
+      → KeepsLine header older now printed
+  kept_line declared accepted e =
+      let truth = accepted_lines_are_true header older now declared accepted in
+      let is = printed_is header older now printed (carried_ok header older now printed e) in
+      let kept = kept-by now.line.verb refl truth is in
+      search rules
 
 -- a text more is read after those before it
 read_from-push : (number : ℕ) (extent : Extent) (texts : List (List ℕ)) (text : List ℕ)
     → read_from number extent (texts ++ text ∷ [])
     ≡ after (number + length texts) (read_from number extent texts) text
-read_from-push number extent [] text = ap (λ (n : ℕ). after n extent text) (omega arith)
+read_from-push number extent [] text = grind (arith, common_steps)
 read_from-push number extent (t ∷ texts) text =
-    read_from-push (suc number) (after number extent t) texts text
-    ∙ ap (λ (n : ℕ). after n (read_from (suc number) (after number extent t) texts) text) (omega arith)
+    let rest = read_from-push (suc number) (after number extent t) texts text in grind (arith, common_steps)
 
 -- so it is from the first on
 pub reached-push : (texts : List (List ℕ)) (text : List ℕ)
@@ -70,14 +119,10 @@ reached-push texts text =
 
 -- ---- the header
 -- the header is whole, or more companions are to come
-pub on_grown : (P : Extent → Type 0) (header : Header) (count : ℕ)
+on_grown : (P : Extent → Type 0) (header : Header) (count : ℕ)
     → (length header.companions ≡ count → P (Running header 2 []))
     → (length header.companions ≢ count → P (Opening header count)) → P (grown header count)
 on_grown P header count whole part = grind (arith, nat_tests)
-
--- a precision exponent in its range is one byte
-fits-exponent : (z : ℤ) → negsuc 127 ≤ℤ z → z ≤ℤ pos 30 → FitsSigned w8 z
-fits-exponent z low high = search (rules, ints)
 
 -- each companion's clock is in range, and so is that of a number that no companion has
 local-good : (list : List CompanionLine) (place : ℕ) → All IsPrintableCompanion list
@@ -90,12 +135,7 @@ local-good (companion ∷ list) (suc place) all = search (rules, local-good list
 -- a good header is whole
 header-whole : (number version : ℕ) (header : Header) → IsGoodHeader header → IsCount (length header.companions)
     → IsVersion version → FitsFirst (version == 1) (length header.companions) → IsWhole number header version []
-header-whole number version header good count known fits = search (rules, fits-exponent, local-good)
-
--- the number after a line is next
-next-line : (number : ℕ) (older : List Numbered) (line : Result Line LineFault) → IsNext number older
-    → IsNext (suc number) (with_line number older line)
-next-line number older line next = grind (arith, common_steps)
+header-whole number version header good count known fits = search (rules, ints, local-good)
 
 -- with one text more
 pub well-after : (number : ℕ) (extent : Extent) (text : List ℕ) → IsWell number extent
@@ -124,7 +164,7 @@ well-after number (Opening header count) text part = by (next_companion header t
         on_grown (IsWell (suc number)) more count
         (λ all. header-whole (suc number) 2 more good (search rules) (search rules) (search rules))
         (λ apart. search rules)
-well-after number (Running header version lines) text well = search (rules, next-line)
+well-after number (Running header version lines) text well = grind (arith, common_steps)
 well-after number Unread text well = tt
 
 -- and with several
@@ -141,39 +181,19 @@ well texts = let all = well-from 1 Outset texts tt in grind (arith, common_steps
 
 -- ---- what is answered
 -- a line that was carried out, or was not, answers what is meant
-answered : (meant : Result (List ℕ) WorldFault) (old new : List ℕ) (result : Result (Unit {0}) WorldFault)
+pub answered : (meant : Result (List ℕ) WorldFault) (old new : List ℕ) (result : Result (Unit {0}) WorldFault)
     → LeavesBy Memory result old new (appended old meant) → Answers (caused meant) old new (told_of result)
-answered (Ok printed) old new (Ok done) e = record { cases = (printed, refl, cc) }
-answered meant old new (Err Memory) e = record { cases = (tt, e.0) }
-answered meant old new result e = search (rules, common_steps)
+answered meant old new result e = grind (arith, common_steps)
 
 -- what holds of a line that was carried out holds of what is told of it
 pub on_carried : {P : Type 0} (result : Result (Unit {0}) WorldFault) → (result ≡ Ok tt → P) → OnOk (told_of result) P
 on_carried result p = grind (arith, common_steps)
 
--- ---- the line after these texts
-module _ {world : World} {version companions : ℕ} (texts : List (List ℕ))
-    (runs : RunsAt world version companions (reached texts)) where
-  -- what is known of it
-  pub whole : IsWhole (length texts + 1) world.header version runs.lines
-  whole = subst (IsWell (length texts + 1)) runs.is (well texts)
-
-  -- what it answers
-  pub answers : {old new : List ℕ} {line : Line} (text : List ℕ) (result : Result (Unit {0}) WorldFault)
-      → line_in version companions text ≡ Ok line
-      → LeavesBy Memory result old new
-      (appended old (line_meant world.header runs.lines (record { number = length texts + 1; line = line })))
-      → Answers (meant_at (length texts + 1) (reached texts) text) old new (told_of result)
-  answers text result read left =
-      rw (runs.is, ← runs.count, read) (answered (line_meant world.header runs.lines _) _ _ result left)
-
-  -- the lines go on with it, once it was carried out
-  pub goes-on : {after : World} {line : Line} (text : List ℕ) → line_in version companions text ≡ Ok line
-      → after.header ≡ world.header
-      → StandsFor after (record { number = length texts + 1; line = line } ∷ runs.lines)
-      → RunsAt after version companions (reached (texts ++ text ∷ []))
-  goes-on {line = line} text read header stands =
-      rw (reached-push texts text, runs.is, ← runs.count, read) (search rules)
+-- what is known of the line after these texts
+pub whole : {world : World} {version companions : ℕ} (texts : List (List ℕ))
+    (runs : RunsAt world version companions (reached texts))
+    → IsWhole (length texts + 1) world.header version runs.lines
+whole texts runs = subst (IsWell (length texts + 1)) runs.is (well texts)
 
 -- a line of either version is one of so many companions, or the television's alone
 pub of-second : (first : Bool) (count : ℕ) (line : Line) → FitsFirst first count → IsOf first count line
@@ -198,8 +218,6 @@ caused-ok meant printed e = grind (arith, common_steps)
 -- one text more
 taken-at : (number : ℕ) (extent : Extent) (text sofar printed : List ℕ) → IsWell number extent → TakenAt extent sofar
     → meant_at number extent text ≡ Ok printed → TakenAt (after number extent text) (sofar ++ printed)
-taken-at number Outset text sofar printed well taken e = grind (arith, common_steps)
-taken-at number (Opening header count) text sofar printed well taken e = grind (arith, common_steps)
 taken-at number (Running header version lines) text sofar printed well taken e =
     by (line_in version (length header.companions) text) refl e
   where
@@ -218,7 +236,7 @@ taken-at number (Running header version lines) text sofar printed well taken e =
           accepted,
           (sofar, printed, refl, kept_line header lines now printed well.declared accepted ok, taken.1),
         )
-taken-at number Unread text sofar printed well taken e = absurd taken
+taken-at number _ text sofar printed well taken e = grind (arith, common_steps)
 
 taken_text : (before : List (List ℕ)) (text sofar printed : List ℕ) → TakenAll before sofar
     → meant_at (length before + 1) (reached before) text ≡ Ok printed
@@ -239,12 +257,12 @@ finishes before = by (reached before)
     by _ = (Some (length before + 1, Refused Form), refl)
 
 -- what was taken keeps the promise
-promise_of : (bytes : List ℕ) (texts rest : List (List ℕ)) (printed : List ℕ) → lines_of bytes ≡ texts ++ rest
-    → TakenAll texts printed → KeepsPromise bytes printed
-promise_of bytes texts rest printed parts taken =
-    (printed, prefix_refl printed, by (reached texts) refl (well texts) taken)
+promise_of : {bytes printed : List ℕ} → TakenOf replayed TakenAll taken_text finishes bytes printed
+    → KeepsPromise bytes printed
+promise_of {bytes = bytes} {printed = printed} of =
+    (printed, prefix_refl printed, by (reached of.texts) refl (well of.texts) of.taken)
   where
-    by : (extent : Extent) → reached texts ≡ extent → IsWell (length texts + 1) extent → TakenAt extent printed
+    by : (extent : Extent) → reached of.texts ≡ extent → IsWell (length of.texts + 1) extent → TakenAt extent printed
         → (printed ≡ []) ⊎ PromiseKept bytes printed
     by (Running header version lines) is well t =
         let world = accepted_lines_are_world header lines well.declared t.0 in inr (search rules)
@@ -252,32 +270,13 @@ promise_of bytes texts rest printed parts taken =
     by _ is well t = inl t
 
 -- what is printed for whole lines keeps the promise
-so_far : (bytes : List ℕ) → KeepsPromise bytes (outcome_so_far replayed bytes).printed
-so_far bytes =
-    let of = taken_so_far replayed TakenAll taken_text finishes refl bytes in
-    promise_of bytes of.texts of.rest _ of.parts of.taken
+pub so_far : (bytes : List ℕ) → KeepsPromise bytes (outcome_so_far replayed bytes).printed
+so_far bytes = promise_of (taken_so_far replayed TakenAll taken_text finishes refl bytes)
 
 -- so does what is printed for the whole input
-in_all : (bytes : List ℕ) → KeepsPromise bytes (outcome replayed bytes).printed
-in_all bytes =
-    let of = taken_in_all replayed TakenAll taken_text finishes refl bytes in
-    promise_of bytes of.texts of.rest _ of.parts of.taken
+pub in_all : (bytes : List ℕ) → KeepsPromise bytes (outcome replayed bytes).printed
+in_all bytes = promise_of (taken_in_all replayed TakenAll taken_text finishes refl bytes)
 
 -- a front part keeps it too
-front_keeps : (bytes front whole : List ℕ) → IsPrefix front whole → KeepsPromise bytes whole → KeepsPromise bytes front
+pub front_keeps : (bytes front whole : List ℕ) → IsPrefix front whole → KeepsPromise bytes whole → KeepsPromise bytes front
 front_keeps bytes front whole prefix keeps = (keeps.0, prefix_trans front whole keeps.0 prefix keeps.1, keeps.2)
-
--- ---- runs
--- what a run adds to the sink keeps the promise of the bytes that it read
-pub promised_done : {left_old left_new holds_old holds_new : Option (List ℕ)} {lines : Replay}
-    → Finishes replayed Stands left_old left_new holds_old holds_new lines
-    → Promised left_old left_new holds_old holds_new
-promised_done f =
-    let keeps = keeps_done replayed KeepsPromise so_far in_all front_keeps f.read f.printed f.all in search rules
-
--- also where it stopped
-pub promised_stop : {left_old left_new holds_old holds_new : Option (List ℕ)} (stop : Stop Cause)
-    → Stops replayed left_old left_new holds_old holds_new stop → Promised left_old left_new holds_old holds_new
-promised_stop {left_new = left_new} stop s =
-    let keeps = keeps_stop replayed KeepsPromise so_far in_all front_keeps s.read s.printed left_new stop s.ends in
-    search rules

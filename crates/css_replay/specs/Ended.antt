@@ -1,4 +1,4 @@
--- How a run ends, as a status.
+-- How a run ends, as a status; and what a command over lines does to its devices, as a replay does.
 use Rattle.std.specs.Prelude.{ℕ, ◌≡◌, ◌⊎◌, ◌<◌, ◌≤◌, ◌-◌, ◌^◌, List, [], ◌++◌, codes, decimal}
 use Rattle.std.specs.Prelude.{Option, Some, None, Ok, Err}
 use Rattle.std.specs.Fmt.{signed_decimal}
@@ -17,6 +17,9 @@ use Rattle.css_cii.specs.FaultWords.{fault_words}
 use Rattle.css_cii.specs.Names.{json_name}
 use Rattle.css_schedule.specs.FaultWords.{why_words}
 use Rattle.css_schedule.specs.declared.fault.LineWhy.TheVariants.{Long, Form, Absent, Player}
+use Rattle.css_replay.specs.Devices.{SourceUse, SinkUse}
+use Rattle.css_replay.specs.Headline.{Promised}
+use Rattle.css_replay.specs.Replayed.{replayed}
 use Rattle.css_replay.specs.declared.status.Status.{Status}
 use Rattle.css_replay.specs.declared.status.Status.TheVariants.{Done, Usage, BadLine, Broken, ReadFault, WriteFault}
 use Rattle.css_replay.specs.declared.status.Status.TheVariants.{NetFault, BadCii, Moved, Spent, Unreachable, ChildFault}
@@ -65,14 +68,11 @@ status_words (WrongReport line right) = codes "line " ++ decimal line ++ codes "
 status_words (NoInterval reports) = codes "no interval in " ++ decimal reports ++ codes " reports"
 status_words Memory = codes "memory"
 
--- the program's name, the words of a status, and a line feed
-abbrev pub words_line : Status → List ℕ
-words_line status = codes "css: " ++ status_words status ++ codes "\n"
-
--- The line that tells a status on standard error. Done is told by no line.
+-- The line that tells a status on standard error: the program's name, its words, and a line feed. Done is told by no
+-- line.
 abbrev pub status_line : Status → List ℕ
 status_line Done = []
-status_line status = words_line status
+status_line status = codes "css: " ++ status_words status ++ codes "\n"
 
 -- ---- runs over lines
 -- the status of a run that stopped, by those of the lines that it may refuse
@@ -162,3 +162,23 @@ IsDoneUnlessMemory _ = ⊥
 abbrev pub IsNoUsage : Status → Type 0
 IsNoUsage Usage = ⊥
 IsNoUsage _ = Unit {0}
+
+-- ---- commands over lines
+-- The status says how the lines were read, which mean this, and the sink holds their output.
+pub record OverLines {Cause : Type 0} (meaning : Meaning Cause) (refused : ℕ → Refusal Cause → Status)
+    (source : SourceUse) (sink : SinkUse) (result : Status) : Type 0 where
+  pub no_usage : IsNoUsage result
+  pub reads : (bytes : List ℕ) → source.left_old ≡ Some bytes
+      → Reads meaning refused bytes source.left_new sink.holds_old sink.holds_new result
+  -- an input of which no line is refused is read to its end, over devices that don't fail
+  pub complete : (bytes : List ℕ) → source.left_old ≡ Some bytes → (outcome meaning bytes).verdict ≡ None
+      → HasNotFailed source.faults_old source.faults_new → HasNotFailed sink.faults_old sink.faults_new
+      → IsDoneUnlessMemory result
+
+-- So it is of the lines of a schedule. Whatever the source, what the sink gained keeps the promise of `Headline`: each
+-- interval of ticks contains the position that the last control timestamp received assigns to the value that its line
+-- gives the television's wall clock, and comes from the narrowest accepted response; lacking a response or usable
+-- timestamp the cause is printed. Once told, the companion's state of the content is one that the television published.
+pub record ByReplay (source : SourceUse) (sink : SinkUse) (result : Status) : Type 0 where
+  pub lines : OverLines replayed replay_refused source sink result
+  pub promise : Promised source.left_old source.left_new sink.holds_old sink.holds_new

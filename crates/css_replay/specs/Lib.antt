@@ -3,4 +3,3 @@ pub mod Stands
 pub mod Ended
 pub mod Headline
 pub mod Devices
-pub mod Does

@@ -16,27 +16,21 @@ use Rattle.css_world.specs.Standing.{World, IsNext, StandsFor}
 use Rattle.css_world.specs.Verdicts.{IsDeclared}
 use Rattle.css_replay.specs.declared.reader.Cause.{Cause}
 use Rattle.css_replay.specs.declared.reader.Cause.TheVariants.{Form, Absent, Player, Broken}
-use Rattle.css_replay.specs.declared.reader.Heading.{Heading}
 use Rattle.css_replay.specs.declared.reader.Replay.{Replay}
 use Rattle.css_replay.specs.Replayed.{Extent, Outset, Opening, Running, reached, after, meant_at}
-use Rattle.css_replay.specs.Replayed.{version_of}
 
 -- what the engine is told of a line that was not read
 abbrev pub unread_fault : LineFault → engine.LineFault Cause
 unread_fault unread.Form = told.Refused Form
 unread_fault unread.Memory = told.Memory
 
--- what it is told of a line that was not carried out
-abbrev pub refused_fault : WorldFault → engine.LineFault Cause
-refused_fault (refused.Broken earlier excess) = told.Refused (Broken earlier excess)
-refused_fault refused.Absent = told.Refused Absent
-refused_fault (refused.Player fault) = told.Refused (Player fault)
-refused_fault refused.Memory = told.Memory
-
--- of one that was carried out, or was not
+-- what it is told of one that was carried out, or was not
 abbrev pub told_of : Result (Unit {0}) WorldFault → Result (Unit {0}) (engine.LineFault Cause)
 told_of (Ok done) = Ok done
-told_of (Err fault) = Err (refused_fault fault)
+told_of (Err (refused.Broken earlier excess)) = Err (told.Refused (Broken earlier excess))
+told_of (Err refused.Absent) = Err (told.Refused Absent)
+told_of (Err (refused.Player fault)) = Err (told.Refused (Player fault))
+told_of (Err refused.Memory) = Err told.Memory
 
 -- ---- what is known of any schedule, as far as it is read
 -- The header of version 2 has fewer companions than the schedule.
@@ -60,15 +54,10 @@ IsWell number _ = Unit {0}
 
 -- ---- how far the reader has read
 -- where a header stands: it is whole, or more companions are to come
-abbrev pub stage_of : Heading → Extent
-stage_of heading =
-    if length heading.header.companions == heading.companions then Running heading.header heading.version []
-    else Opening heading.header heading.companions
-
--- with a part of a header of version 2, or none of it
-abbrev pub IsOpen : Option Heading → Extent → Type 0
-IsOpen None extent = extent ≡ Outset
-IsOpen (Some heading) extent = (extent ≡ Opening heading.header heading.companions) × (heading.version ≡ 2)
+abbrev pub stage_of : Header → Replay → Extent
+stage_of header replay =
+    if length header.companions == replay.companions then Running header replay.version []
+    else Opening header replay.companions
 
 -- The header was read, of that version and so many companions, and its world stands for the lines after it.
 pub record RunsAt (world : World) (version companions : ℕ) (extent : Extent) : Type 0 where
@@ -77,14 +66,15 @@ pub record RunsAt (world : World) (version companions : ℕ) (extent : Extent) :
   pub count : companions ≡ length world.header.companions
   pub stands : StandsFor world lines
 
-abbrev pub IsAt : Option Heading → Option World → ℕ → ℕ → Extent → Type 0
-IsAt heading (Some world) version companions extent = RunsAt world version companions extent
-IsAt heading None version companions extent = IsOpen heading extent
+-- with a header and its world, with a part of a header of version 2, or with none of it
+abbrev pub IsAt : Option Header → Option World → ℕ → ℕ → Extent → Type 0
+IsAt header (Some world) version companions extent = RunsAt world version companions extent
+IsAt (Some header) None version companions extent = (extent ≡ Opening header companions) × (version ≡ 2)
+IsAt None None version companions extent = (extent ≡ Outset) × (version ≡ 1)
 
 -- the reader has read so far
-pub record StandsAt (replay : Replay) (extent : Extent) : Type 0 where
-  pub version : replay.version ≡ version_of extent
-  pub at : IsAt replay.heading replay.world replay.version replay.companions extent
+abbrev pub StandsAt : Replay → Extent → Type 0
+StandsAt replay extent = IsAt replay.header replay.world replay.version replay.companions extent
 
 -- The reader stands for these texts: it knows how many they are, and has read them.
 pub record Stands (replay : Replay) (texts : List (List ℕ)) : Type 0 where

@@ -1,6 +1,5 @@
-ghost use Rattle.std.specs.Prelude.{◌≡◌, ℕ};
-ghost use Rattle.css_replay.specs.Replayed.{Extent, version_of};
-ghost use Rattle.css_replay.specs.Stands.{IsOpen, IsWell, ReadsOn, stage_of, told_of, unread_fault};
+ghost use Rattle.std.specs.Prelude.{◌≡◌};
+ghost use Rattle.css_replay.specs.Stands.{told_of, unread_fault};
 
 use css_lines::Lines;
 use css_schedule::{Header, LineFault, PlayerFault, Start, read_companion, read_header, read_line};
@@ -20,14 +19,6 @@ pub enum Cause {
     Broken { earlier: u64, excess: i128 },
 }
 
-/// A header as far as it was read: its version, and how many companions it has in all.
-#[derive(Drop)]
-struct Heading {
-    header: Header,
-    version: u32,
-    companions: u32,
-}
-
 /// Replays a schedule: carries out its lines, and prints the span of the wall clock, or a companion's report, where a
 /// line asks for it.
 #[derive(Drop)]
@@ -38,7 +29,7 @@ pub struct Replay {
     /// How many companions the schedule has, once line 1 was read.
     companions: u32,
     /// The header, while lines of its companions are to come.
-    heading: Option<Heading>,
+    header: Option<Header>,
     /// The world that carries out the lines after the header.
     world: Option<World>,
     /// The number of the last line that was taken.
@@ -69,36 +60,10 @@ fn told(done: Result<(), WorldFault>) -> Result<(), css_lines::LineFault<Cause>>
     Err(css_lines::LineFault::Refused(cause))
 }
 
-// Reads a line of the header: line 1, or that of the next companion.
-fn read_on(alloc: Global, heading: Option<Heading>, text: &[u8]) -> Result<Heading, LineFault>
-    requires { (number : ℕ) × (extent : Extent) × IsOpen heading extent × IsWell number extent }
-    ensures { (extent : Extent) → IsOpen heading extent → ReadsOn extent text.now result
-        (λ next heading. (next ≡ stage_of heading) × (heading.version ≡ version_of next)) }
-{
-    let Some(mut heading) = heading else {
-        return match read_header(alloc, text)? {
-            Start::One(header) => Ok(Heading {
-                header,
-                version: 1,
-                companions: 1,
-            }),
-            Start::Two { header, companions } => Ok(Heading {
-                header,
-                version: 2,
-                companions,
-            }),
-        };
-    };
-    let number = heading.header.companions.list().len() as u32 + 1;
-    let companion = read_companion(alloc, text, number)?;
-    heading.header.add(companion)?;
-    Ok(heading)
-}
-
 impl Replay {
     ghost use Rattle.std.specs.Prelude.{◌≡◌, ℕ, [], None};
-    ghost use Rattle.css_replay.specs.Replayed.{Extent};
-    ghost use Rattle.css_replay.specs.Stands.{IsOpen, IsWell, ReadsOn, Stands, StandsAt};
+    ghost use Rattle.css_replay.specs.Replayed.{Extent, version_of};
+    ghost use Rattle.css_replay.specs.Stands.{IsWell, ReadsOn, Stands, StandsAt, stage_of};
 
     /// No line was taken yet.
     pub fn new(alloc: Global) -> Replay
@@ -108,31 +73,55 @@ impl Replay {
             alloc,
             version: 1,
             companions: 0,
-            heading: None,
+            header: None,
             world: None,
             last: 0,
         }
     }
 
-    // Reads a line of the header. A world is large: in a function of its own its room is cleared once, and not at each
+    // Reads a line of the header: line 1, or that of the next companion.
+    fn read_on(&mut self, text: &[u8]) -> Result<Header, LineFault>
+        requires well { (number : ℕ) × (extent : Extent) × StandsAt self.old extent × IsWell number extent }
+        requires none { self.old.world ≡ None }
+        ensures reads { (extent : Extent) → StandsAt self.old extent → ReadsOn extent text.now result
+            (λ next header. (next ≡ stage_of header self.new) × (self.new.version ≡ version_of next)) }
+        ensures kept { (self.new.world ≡ self.old.world) × (self.new.last ≡ self.old.last) }
+    {
+        let Some(mut header) = self.header.take() else {
+            return match read_header(self.alloc, text)? {
+                Start::One(header) => {
+                    self.companions = 1;
+                    Ok(header)
+                }
+                Start::Two { header, companions } => {
+                    self.version = 2;
+                    self.companions = companions;
+                    Ok(header)
+                }
+            };
+        };
+        let number = header.companions.list().len() as u32 + 1;
+        header.add(read_companion(self.alloc, text, number)?)?;
+        Ok(header)
+    }
+
+    // Takes a line of the header. A world is large: in a function of its own its room is cleared once, and not at each
     // line.
     #[cold]
     #[inline(never)]
     fn open(&mut self, text: &[u8]) -> Result<(), LineFault>
-        requires well { (number : ℕ) × (extent : Extent) × IsOpen self.old.heading extent × IsWell number extent }
+        requires well { (number : ℕ) × (extent : Extent) × StandsAt self.old extent × IsWell number extent }
         requires none { self.old.world ≡ None }
-        ensures reads { (extent : Extent) → IsOpen self.old.heading extent
+        ensures reads { (extent : Extent) → StandsAt self.old extent
             → ReadsOn extent text.now result (λ next done. StandsAt self.new next) }
         ensures last { self.new.last ≡ self.old.last }
     {
-        let heading = read_on(self.alloc, self.heading.take(), text)?;
-        self.version = heading.version;
-        self.companions = heading.companions;
-        if heading.header.companions.list().len() == heading.companions as usize {
-            self.world = Some(World::new(self.alloc, heading.header)?);
-            return Ok(());
+        let header = self.read_on(text)?;
+        if header.companions.list().len() == self.companions as usize {
+            self.world = Some(World::new(self.alloc, header)?);
+        } else {
+            self.header = Some(header);
         }
-        self.heading = Some(heading);
         Ok(())
     }
 }

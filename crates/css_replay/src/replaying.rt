@@ -1,7 +1,6 @@
 ghost use Rattle.std.specs.Prelude.{◌≡◌};
 ghost use Rattle.css_replay.specs.Devices.{sink_use, source_use};
-ghost use Rattle.css_replay.specs.Does.{ByReplay};
-ghost use Rattle.css_replay.specs.Ended.{CountsReads, CountsWrites, TellsNoLive, replay_refused, stop_status};
+ghost use Rattle.css_replay.specs.Ended.{ByReplay, CountsReads, CountsWrites, TellsNoLive, replay_refused, stop_status};
 
 use crate::reader::{Cause, Replay};
 use crate::status::Status;
@@ -53,10 +52,7 @@ pub fn replay<S: Source, K: Sink>(alloc: Global, source: &mut S, sink: &mut K) -
     ensures counted_reads { CountsReads (S.faults source.old) (S.faults source.new) result }
     ensures counted_writes { CountsWrites (K.faults sink.old) (K.faults sink.new) result }
 {
-    let mut replay = Replay::new(alloc);
-    let ended = drive(alloc, source, sink, &mut replay);
-    // What the lines left isn't needed for the status.
-    drop(replay);
+    let ended = drive(alloc, source, sink, &mut Replay::new(alloc));
     match ended {
         Ok(()) => Status::Done,
         Err(stop) => status_of(stop),

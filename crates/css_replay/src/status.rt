@@ -6,7 +6,7 @@ use css_schedule::LineWhy;
 use std::fmt;
 
 /// How a run ended. It is printed in the words of the program's status line.
-#[derive(Debug, PartialEq, Eq)]
+#[derive(Debug, PartialEq, Eq, Drop)]
 pub enum Status {
     /// The input was read to its end, and all output was written. Of a live command: all reports were written, or all
     /// turns were made.
@@ -79,39 +79,6 @@ pub enum Status {
     },
     /// Memory ran out. A part of the output of the lines that were read, or of the reports that were due, was written.
     Memory,
-}
-
-// By hand: a derived drop is opened at each exit of each caller's proof.
-impl Drop for Status {
-    fn drop(self) {
-        match self {
-            Status::Done => {}
-            Status::Usage => {}
-            Status::BadLine { line: _, why: _ } => {}
-            Status::Broken {
-                line: _,
-                earlier: _,
-                excess: _,
-            } => {}
-            Status::ReadFault => {}
-            Status::WriteFault => {}
-            Status::NetFault(_) => {}
-            Status::BadCii { text: _, fault: _ } => {}
-            Status::Moved {
-                property: _,
-                old: _,
-                new: _,
-            } => {}
-            Status::Spent { turns: _ } => {}
-            Status::Unreachable { turns: _ } => {}
-            Status::ChildFault { status: _ } => {}
-            Status::BadSheet { line: _ } => {}
-            Status::BadUrl { property: _ } => {}
-            Status::WrongReport { line: _, right: _ } => {}
-            Status::NoInterval { reports: _ } => {}
-            Status::Memory => {}
-        }
-    }
 }
 
 impl Status {

@@ -2,7 +2,7 @@ ghost use Rattle.std.specs.Prelude.{◌≡◌, OnOk, OnErr};
 ghost use Rattle.std.specs.Io.KnownBytes.{Appends};
 ghost use Rattle.css_outside.specs.Bytes.{AppendsPrefix};
 ghost use Rattle.css_outside.specs.Faults.{CountsCall};
-ghost use Rattle.css_replay.specs.Ended.{status_line, status_number, words_line};
+ghost use Rattle.css_replay.specs.Ended.{status_line, status_number};
 
 use crate::status::Status;
 use css_outside::{OutFault, Sink, write_all};
@@ -31,6 +31,7 @@ pub fn tell<K: Sink>(alloc: Global, status: &Status, sink: &mut K) -> Ending
     }
 }
 
+#[tactic(auto, using(crate::proofs::OverLines::line_of_words))]
 fn print_line<K: Sink>(alloc: Global, status: &Status, sink: &mut K) -> Result<(), OutFault>
     ensures told { OnOk result (Appends (K.holds sink.old) (K.holds sink.new) (status_line status.now)) }
     ensures part { OnErr result (AppendsPrefix (K.holds sink.old) (K.holds sink.new) (status_line status.now)) }
@@ -39,17 +40,9 @@ fn print_line<K: Sink>(alloc: Global, status: &Status, sink: &mut K) -> Result<(
     match status {
         Status::Done => write_all(sink, b""),
         Status::Memory => write_all(sink, b"css: memory\n"),
-        _ => print_words(alloc, status, sink),
-    }
-}
-
-fn print_words<K: Sink>(alloc: Global, status: &Status, sink: &mut K) -> Result<(), OutFault>
-    ensures told { OnOk result (Appends (K.holds sink.old) (K.holds sink.new) (words_line status.now)) }
-    ensures part { OnErr result (AppendsPrefix (K.holds sink.old) (K.holds sink.new) (words_line status.now)) }
-    ensures counted { CountsCall (K.faults sink.old) (K.faults sink.new) result }
-{
-    match format!(in alloc; "css: {status}\n") {
-        Ok(line) => write_all(sink, line.as_bytes()),
-        Err(_) => Err(OutFault::Memory),
+        _ => match format!(in alloc; "css: {status}\n") {
+            Ok(line) => write_all(sink, line.as_bytes()),
+            Err(_) => Err(OutFault::Memory),
+        },
     }
 }

@@ -3,7 +3,7 @@ use Rattle.std.proofs.Common.{◌≡◌, ℕ, List, [], ◌∷◌, ◌++◌, Res
 use Rattle.std.proofs.Common.{ap₂}
 use Rattle.std.specs.Prelude.{eqb, filter, map, reverse, OnOk}
 use Rattle.std.specs.List.{filter_map}
-use Rattle.std.proofs.lemmas.List.{append-nil, map-append, reverse-append}
+use Rattle.std.proofs.lemmas.List.{map-append, reverse-append}
 use Rattle.std.proofs.lemmas.List.Elements.{filter-append, filter_map-append}
 use Rattle.css_player.specs.Player.{Player}
 use Rattle.css_player.specs.Events.{StandsFor as PlayerStandsFor}
@@ -84,18 +84,28 @@ said_to-append peer xs ys =
     ap (map (λ s. s.text)) (filter-append (λ s. eqb s.peer peer) xs ys) ∙ map-append (λ s. s.text)
     (filter (λ s. eqb s.peer peer) xs) (filter (λ s. eqb s.peer peer) ys)
 
-said_all : (es h : List SessionsCall) (said : List Said) → IsLawful (es ++ h) → AreSaid said h
-    → AreSaid (said ++ said_after es (sessions_of h)) (es ++ h)
-said_all [] h said lawful told = λ peer. ap (λ s. reverse (said_to peer s)) (append-nil said) ∙ told peer
-said_all (e ∷ es) h said lawful told = λ peer.
+-- what calls say is what they add to the texts of each session
+pub texts_all : (es h : List SessionsCall) → IsLawful (es ++ h) → (peer : ℕ)
+    → texts_of peer (es ++ h) ≡ reverse (said_to peer (said_after es (sessions_of h))) ++ texts_of peer h
+texts_all [] h lawful peer = refl
+texts_all (e ∷ es) h lawful peer =
     let so_far = said_after es (sessions_of h) in
     let now = (step_of e (kept_after es (sessions_of h))).said in
-    ap (λ s. reverse (said_to peer s)) (sym (append_assoc said so_far now))
-    ∙ ap reverse (said_to-append peer (said ++ so_far) now)
-    ∙ reverse-append (said_to peer (said ++ so_far)) (said_to peer now)
-    ∙ ap (λ texts. reverse (said_to peer now) ++ texts) (said_all es h said lawful.0 told peer)
-    ∙ ap (λ k. reverse (said_to peer (step_of e k).said) ++ texts_of peer (es ++ h)) (kept_all es h)
-    ∙ sym (told_now e (es ++ h) lawful peer)
+    told_now e (es ++ h) lawful peer
+    ∙ ap (λ k. reverse (said_to peer (step_of e k).said) ++ texts_of peer (es ++ h)) (sym (kept_all es h))
+    ∙ ap (λ texts. reverse (said_to peer now) ++ texts) (texts_all es h lawful.0 peer)
+    ∙ sym (append_assoc (reverse (said_to peer now)) (reverse (said_to peer so_far)) (texts_of peer h))
+    ∙ ap (λ texts. texts ++ texts_of peer h) (sym (reverse-append (said_to peer so_far) (said_to peer now)))
+    ∙ ap (λ texts. reverse texts ++ texts_of peer h) (sym (said_to-append peer so_far now))
+
+said_all : (es h : List SessionsCall) (said : List Said) → IsLawful (es ++ h) → AreSaid said h
+    → AreSaid (said ++ said_after es (sessions_of h)) (es ++ h)
+said_all es h said lawful told = λ peer.
+    let now = said_after es (sessions_of h) in
+    ap reverse (said_to-append peer said now)
+    ∙ reverse-append (said_to peer said) (said_to peer now)
+    ∙ ap (λ texts. reverse (said_to peer now) ++ texts) (told peer)
+    ∙ sym (texts_all es h lawful peer)
 
 texts_in : (xs : List Said) → filter_map said_by (map say xs) ≡ xs
 texts_in [] = refl
@@ -105,7 +115,7 @@ none_in : (peers : List ℕ) (xs : List TvOut) → filter_map said_by (map out.H
 none_in [] xs = refl
 none_in (p ∷ ps) xs = none_in ps xs
 
-said_in : (o : Outcome) (k : Kept) (before : List TvOut)
+pub said_in : (o : Outcome) (k : Kept) (before : List TvOut)
     → filter_map said_by (before ++ outs o k) ≡ filter_map said_by before ++ said_after o.called k
 said_in o k before =
     filter_map-append said_by before (outs o k) ∙ ap (λ ys. filter_map said_by before ++ ys)

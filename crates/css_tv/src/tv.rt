@@ -5,7 +5,7 @@ ghost use Rattle.css_model.specs.Numbers.{max_error};
 ghost use Rattle.css_model.specs.Wire.{encoded, decoded, stamp_bytes};
 ghost use Rattle.css_server.specs.Tickets.{received, after_ticket, response_to, follow_up_to, follow_up_for};
 ghost use Rattle.css_server.specs.Exchanges as server;
-ghost use Rattle.css_sessions.specs.Kept.{talk_of};
+ghost use Rattle.css_sessions.specs.Kept.{next_open, talk_of};
 ghost use Rattle.css_tv.specs.States.{published_state, addresses_of};
 ghost use Rattle.css_tv.specs.Outcomes.{outcome_at};
 ghost use Rattle.css_tv.specs.Serving.{server_of, Serves};
@@ -95,6 +95,13 @@ impl Tv {
         ensures { IsTrue result ↔ IsSome (talk_of peer self.now.stage.sessions.list) }
     {
         self.stage.sessions.is_open(peer)
+    }
+
+    /// The first peer after the last one that has a session.
+    pub fn next_open(&self, last: Option<u32>) -> Option<u32>
+        ensures { result ≡ next_open last self.now.stage.sessions.list }
+    {
+        self.stage.sessions.next_open(last)
     }
 
     /// Takes a request of CSS-WC: [`Server::receive`].

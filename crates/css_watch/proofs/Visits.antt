@@ -3,7 +3,7 @@ use Rattle.std.proofs.Common.{◌≡◌, ◌≤◌, ℕ, ◌+◌, suc, arith, ap
 use Rattle.std.proofs.Common.{append-nil, add-one, Some, None, Bool, true, false, cond}
 use Rattle.std.proofs.KnownBytes.{Appends-nil, Appends-trans}
 use Rattle.std.specs.Io.KnownBytes.{Appends}
-use Rattle.css_drive.proofs.CompanionRuns.{risen_from}
+use Rattle.css_drive.proofs.CompanionEnds.{risen_from}
 use Rattle.css_drive.proofs.CompanionSteps.{told_more}
 use Rattle.css_drive.specs.Ends as drive
 use Rattle.css_drive.specs.declared.driven.Driven.{Driven}

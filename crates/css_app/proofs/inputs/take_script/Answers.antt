@@ -1,7 +1,7 @@
 use Rattle.std.proofs.Common.{refl}
+use Rattle.css_app.specs.Ended.{script_in, script_lines, why_of}
 use Rattle.css_app.specs.Live.{bad_line}
-use Rattle.css_app.specs.Scripts.{script_in, script_lines, why_of}
-use Rattle.css_app.proofs.Taken.{gives-script, none_at, script-bad}
+use Rattle.css_app.proofs.Commands.{gives-script, none_at, script-bad}
 use Rattle.css_app.proofs.inputs.take_script.Goals as goal
 
 pub returns-in-Ok-drive-clause-value : goal.returns-in-Ok-drive-clause-value

@@ -1,14 +1,12 @@
-use Rattle.std.proofs.Common.{◌≡◌, ℕ, List, ap, refl}
-use Rattle.std.specs.Prelude.{Err, Some}
+use Rattle.std.proofs.Common.{ap, refl}
 use Rattle.css_follow.specs.Sheets.{sheet_in, sheet_lines, sheet_of, unless_refused}
 use Rattle.css_follow.specs.declared.fault.SheetFault.TheVariants.{Line}
 use Rattle.css_follow.specs.declared.line.Form.{Form}
 use Rattle.css_follow.proofs.SheetsRead.{read-ok}
-use Rattle.css_lines.specs.declared.reader.Refusal.{Refusal}
 use Rattle.css_lines.specs.Lines.{lines_of}
-use Rattle.css_lines.specs.Meaning.{Outcome, outcome}
+use Rattle.css_lines.specs.Meaning.{Outcome}
 use Rattle.css_replay.specs.declared.status.Status.TheVariants.{BadSheet}
-use Rattle.css_app.proofs.Taken.{none_at}
+use Rattle.css_app.proofs.Commands.{none_at}
 use Rattle.css_app.proofs.inputs.take_sheet.Goals as goal
 
 pub returns-in-Ok-drive-clause-value : goal.returns-in-Ok-drive-clause-value
@@ -21,16 +19,11 @@ returns-in-Ok-drive-clause-value g c =
       is = read-ok f.read c.drive.new.lines.sheet (ap (λ (o : Outcome Form). o.verdict) f.all) f.stood;
     })
 
--- the first line that is refused
-sheet-bad : (bytes : List ℕ) (line : ℕ) (why : Refusal Form) → (outcome sheet_lines bytes).verdict ≡ Some (line, why)
-    → sheet_in bytes ≡ Err (Line line)
-unfolding sheet_in
-sheet-bad bytes line why e = ap (λ v. unless_refused v (sheet_of (lines_of bytes))) e
-
 pub returns-clause-value : goal.returns-clause-value
+unfolding sheet_in
 returns-clause-value g c =
     let run = c.in-Err.ensures in
     rw c.sheet_status.ensures
-    (none_at sheet_in Line BadSheet (λ bad. tt) sheet_lines (λ line why. line) sheet-bad _ _ _ _
-    (λ bad all. (bad, refl, all)) c.in-Err.stop
-    run.counted_writes run.ran)
+    (none_at sheet_in Line BadSheet (λ bad. tt) sheet_lines (λ line why. line)
+    (λ bytes line why e. ap (λ v. unless_refused v (sheet_of (lines_of bytes))) e) _ _ _ _
+    (λ bad all. (bad, refl, all)) c.in-Err.stop run.counted_writes run.ran)

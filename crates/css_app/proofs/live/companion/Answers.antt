@@ -2,8 +2,7 @@ use Rattle.std.proofs.Common.{refl, inl, inr}
 use Rattle.css_follow.specs.Sheets.{sheet_in}
 use Rattle.css_follow.specs.declared.fault.SheetFault.TheVariants.{Line}
 use Rattle.css_replay.specs.declared.status.Status.TheVariants.{BadSheet}
-use Rattle.css_app.proofs.LiveEnds.{as_due, driven_tells}
-use Rattle.css_app.proofs.Taken.{took_none}
+use Rattle.css_app.proofs.Commands.{as_due, driven_tells, took_none}
 use Rattle.css_app.proofs.live.companion.Goals as goal
 
 -- the sheet was not read
@@ -18,7 +17,6 @@ returns-in-Err g c =
       no_usage = none.no_usage;
     }
 
--- the followers lacked memory
 -- the run
 pub returns : goal.returns
 returns g c =

@@ -1,5 +1,5 @@
 use Rattle.std.proofs.Common.{refl}
-use Rattle.css_app.proofs.LiveEnds.{as_due, driven_tells}
+use Rattle.css_app.proofs.Commands.{as_due, driven_tells}
 use Rattle.css_app.proofs.live.record_companion.Goals as goal
 
 pub returns : goal.returns

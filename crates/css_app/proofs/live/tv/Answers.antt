@@ -1,8 +1,7 @@
-use Rattle.std.proofs.Common.{refl, inl, inr}
+use Rattle.std.proofs.Common.{◌≡◌, refl, inl, inr}
+use Rattle.css_app.specs.Ended.{script_in}
 use Rattle.css_app.specs.Live.{bad_line}
-use Rattle.css_app.specs.Scripts.{script_in}
-use Rattle.css_app.proofs.Taken.{same_script, took_none}
-use Rattle.css_app.proofs.LiveEnds.{as_due, driven_tells, no_write, tv_dials, unwritten}
+use Rattle.css_app.proofs.Commands.{as_due, driven_tells, no_write, script_of_text, took_none, tv_dials, unwritten}
 use Rattle.css_app.proofs.live.tv.Goals as goal
 
 -- the script was not read
@@ -34,7 +33,8 @@ returns g c =
         tells = refl;
       });
       complete = λ bytes script is ok read called.
-          let same = same_script _ bytes _ c.in-Ok.script.items script is c.in-Ok.ensures.value ok in
+          let taken = script_of_text _ bytes _ c.in-Ok.script.items is c.in-Ok.ensures.value in
+          let same : c.in-Ok.script.items ≡ script = cc (taken, ok) in
           rw (← same) (as_due ran.h ended ran.grew ran.proper ran.ends
           (unwritten ended 0 made.counted.no_writes) made.counted.faults no_write called);
       counted = λ writes spawns. rw c.in-Ok.ensures.counted

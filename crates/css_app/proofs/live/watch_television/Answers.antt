@@ -1,5 +1,5 @@
 use Rattle.std.proofs.Common.{refl}
-use Rattle.css_app.proofs.LiveEnds.{watched_last, watched_tells}
+use Rattle.css_app.proofs.Commands.{watched_last, watched_tells}
 use Rattle.css_app.proofs.live.watch_television.Goals as goal
 
 pub returns : goal.returns

@@ -1,8 +1,8 @@
-use Rattle.std.proofs.Common.{◌∙◌, inl, inr, refl}
+use Rattle.std.proofs.Common.{◌∙◌, arith, inl, inr, refl}
+use Rattle.std.proofs.lemmas.Grind.{common_steps}
+use Rattle.css_app.specs.Ended.{script_in}
 use Rattle.css_app.specs.Live.{bad_line, driven_status}
-use Rattle.css_app.specs.Scripts.{script_in}
-use Rattle.css_app.proofs.LiveEnds.{as_due, both_tell, driven_tells, pairs_as_due, running_after}
-use Rattle.css_app.proofs.Taken.{took_none}
+use Rattle.css_app.proofs.Commands.{as_due, both_tell, driven_tells, pairs_as_due, took_none}
 use Rattle.css_app.proofs.live_pair.pair.Goals as goal
 
 -- the script was not read
@@ -44,7 +44,7 @@ returns g c =
           };
           finished = c.finish-finished.result;
           told = rw (c.in-Ok-start.ensures.told, words, c.deref-2.ensures.value) at finish.told;
-          running = running_after c.finish-finished.result _ _ _ c.in-Ok-start.ensures.ok finish.ok finish.err;
+          running = grind (arith, common_steps, c.in-Ok-start.ensures.ok, finish.ok, finish.err);
           tells = refl;
         });
       });

@@ -1,12 +1,11 @@
 use Rattle.std.proofs.Common.{refl, inr}
-use Rattle.css_app.proofs.Commands.{as_asked}
-use Rattle.css_app.proofs.LiveEnds.{as_due, driven_tells, no_write, unwritten, writes_tells}
+use Rattle.css_app.proofs.Commands.{as_asked, as_due, driven_tells, no_write, unwritten, writes_tells}
 use Rattle.css_drive_relay.specs.Due.{IsProperRelay, due}
 use Rattle.css_app.proofs.program.run_command.Goals as goal
 
 -- ---- what is done is what the words ask for
 pub returns-then-words-clause-does : goal.returns-then-words-clause-does
-returns-then-words-clause-does g c = rw (c.in-Ok-Companion.is, c.in-Ok-Companion.field-0-is) (
+returns-then-words-clause-does g c = rw c.in-Companion.is (
   λ plain. absurd (cc),
   λ recorded. record {
     ran = inr (c.run_of-run.result, c.run_of-run.ensures.asked, c.record_companion.ensures.makes);
@@ -15,7 +14,7 @@ returns-then-words-clause-does g c = rw (c.in-Ok-Companion.is, c.in-Ok-Companion
 )
 
 pub returns-else-words-clause-does : goal.returns-else-words-clause-does
-returns-else-words-clause-does g c = rw (c.in-Ok-Companion.is, c.in-Ok-Companion.field-0-is) (
+returns-else-words-clause-does g c = rw c.in-Companion.is (
   λ plain. record {
     ran = as_asked _ c.run_of-run.ensures.asked c.companion.ensures.ran;
     complete = λ bytes sheet is ok read wrote called.
@@ -25,18 +24,18 @@ returns-else-words-clause-does g c = rw (c.in-Ok-Companion.is, c.in-Ok-Companion
 )
 
 pub returns-in-Ok-clause-does : goal.returns-in-Ok-clause-does
-returns-in-Ok-clause-does g c = rw (c.in-Ok-Pair.is, c.in-Ok-Pair.field-0-is) (record {
+returns-in-Ok-clause-does g c = rw c.in-Pair.is (record {
   ran = as_asked _ c.in-Ok.ensures.run (rw c.in-Ok.ensures.child at c.pair.ensures.ran);
   complete = λ bytes script is ok read wrote called spawned.
       as_asked _ c.in-Ok.ensures.run (c.pair.ensures.complete bytes script is ok read wrote called spawned);
 })
 
-pub returns-in-Ok-Relay-clause-does : goal.returns-in-Ok-Relay-clause-does
-returns-in-Ok-Relay-clause-does g c =
+pub returns-in-Relay-clause-does : goal.returns-in-Relay-clause-does
+returns-in-Relay-clause-does g c =
     let made = c.drive_relay.ensures in
     let run = c.relay_run_of.result in
     let ended = c.drive_relay.result in
-    rw (c.in-Ok-Relay.is, c.in-Ok-Relay.field-0-is, c.status_of.ensures.value)
+    rw (c.in-Relay.is, c.status_of.ensures.value)
     (record {
       ran = inr (run, c.relay_run_of.ensures.asked, (ended, made.ran, refl));
       complete = λ called.
@@ -45,15 +44,15 @@ returns-in-Ok-Relay-clause-does g c =
           made.ran.ends (unwritten ended 0 made.counted.no_writes) made.counted.faults no_write called);
     })
 
-pub returns-in-Ok-Watch-clause-does : goal.returns-in-Ok-Watch-clause-does
-returns-in-Ok-Watch-clause-does g c = rw (c.in-Ok-Watch.is, c.in-Ok-Watch.field-0-is) (record {
+pub returns-in-Watch-clause-does : goal.returns-in-Watch-clause-does
+returns-in-Watch-clause-does g c = rw c.in-Watch.is (record {
   ran = inr (c.watch_run_of.result, c.watch_run_of.ensures.asked, c.watch_television.ensures.makes);
   complete = c.watch_television.ensures.complete;
 })
 
 -- ---- the counts of the devices that a command doesn't use are as before
-pub returns-in-Ok-Replay-clause-counted : goal.returns-in-Ok-Replay-clause-counted
-returns-in-Ok-Replay-clause-counted g c = record {
+pub returns-in-Replay-clause-counted : goal.returns-in-Replay-clause-counted
+returns-in-Replay-clause-counted g c = record {
   reads = c.replay.ensures.counted_reads;
   writes = c.replay.ensures.counted_writes;
   calls = c.replay.ensures.quiet.calls _;
@@ -61,14 +60,14 @@ returns-in-Ok-Replay-clause-counted g c = record {
   spawns = c.replay.ensures.quiet.spawns _;
 }
 
-pub returns-in-Ok-Agree-clause-counted : goal.returns-in-Ok-Agree-clause-counted
-returns-in-Ok-Agree-clause-counted g c = c.agree.ensures.counted _ _
+pub returns-in-Agree-clause-counted : goal.returns-in-Agree-clause-counted
+returns-in-Agree-clause-counted g c = c.agree.ensures.counted _ _
 
-pub returns-in-Ok-Audit-clause-counted : goal.returns-in-Ok-Audit-clause-counted
-returns-in-Ok-Audit-clause-counted g c = c.audit.ensures.counted _ _
+pub returns-in-Audit-clause-counted : goal.returns-in-Audit-clause-counted
+returns-in-Audit-clause-counted g c = c.audit.ensures.counted _ _
 
-pub returns-in-Ok-Migrate-clause-counted : goal.returns-in-Ok-Migrate-clause-counted
-returns-in-Ok-Migrate-clause-counted g c = c.migrate.ensures.counted _ _
+pub returns-in-Migrate-clause-counted : goal.returns-in-Migrate-clause-counted
+returns-in-Migrate-clause-counted g c = c.migrate.ensures.counted _ _
 
 pub returns-then-words-clause-counted : goal.returns-then-words-clause-counted
 returns-then-words-clause-counted g c = c.record_companion.ensures.counted _ _
@@ -76,22 +75,22 @@ returns-then-words-clause-counted g c = c.record_companion.ensures.counted _ _
 pub returns-else-words-clause-counted : goal.returns-else-words-clause-counted
 returns-else-words-clause-counted g c = c.companion.ensures.counted _
 
-pub returns-in-Ok-Tv-clause-counted : goal.returns-in-Ok-Tv-clause-counted
-returns-in-Ok-Tv-clause-counted g c = c.tv.ensures.counted _ _
+pub returns-in-Tv-clause-counted : goal.returns-in-Tv-clause-counted
+returns-in-Tv-clause-counted g c = c.tv.ensures.counted _ _
 
-pub returns-in-Ok-Relay-clause-counted : goal.returns-in-Ok-Relay-clause-counted
-returns-in-Ok-Relay-clause-counted g c =
+pub returns-in-Relay-clause-counted : goal.returns-in-Relay-clause-counted
+returns-in-Relay-clause-counted g c =
     let made = c.drive_relay.ensures.counted in
     rw c.status_of.ensures.value
     (driven_tells c.drive_relay.result (unwritten c.drive_relay.result _ made.no_writes) made.faults made.dials)
 
-pub returns-in-Ok-Watch-clause-counted : goal.returns-in-Ok-Watch-clause-counted
-returns-in-Ok-Watch-clause-counted g c = c.watch_television.ensures.counted _ _
+pub returns-in-Watch-clause-counted : goal.returns-in-Watch-clause-counted
+returns-in-Watch-clause-counted g c = c.watch_television.ensures.counted _ _
 
-pub returns-in-Ok-Generate-clause-counted : goal.returns-in-Ok-Generate-clause-counted
-returns-in-Ok-Generate-clause-counted g c =
+pub returns-in-Generate-clause-counted : goal.returns-in-Generate-clause-counted
+returns-in-Generate-clause-counted g c =
     writes_tells _ _ _ c.generate.result c.generate.ensures.writes c.generate.ensures.counted_writes
 
-pub returns-in-Ok-Survey-clause-counted : goal.returns-in-Ok-Survey-clause-counted
-returns-in-Ok-Survey-clause-counted g c =
+pub returns-in-Survey-clause-counted : goal.returns-in-Survey-clause-counted
+returns-in-Survey-clause-counted g c =
     writes_tells _ _ _ c.survey.result c.survey.ensures.writes c.survey.ensures.counted_writes

@@ -1,5 +1,5 @@
 use Rattle.std.proofs.Common.{refl}
-use Rattle.css_drive.proofs.Reports as reports
+use Rattle.css_drive.proofs.CompanionEnds as reports
 use Rattle.css_drive.proofs.companion.drive_telling.Goals as goal
 
 pub drive-requires-clause-begun : goal.drive-requires-clause-begun

@@ -1,13 +1,9 @@
-use Rattle.std.proofs.Common.{drop}
-use Rattle.css_drive.specs.CompanionStanding.{shown}
+use Rattle.std.proofs.Common.{drop, Ok}
 use Rattle.css_drive.specs.TvProgress.{Place}
-use Rattle.css_drive.specs.TvStanding.{From, Settles, with_tv}
-use Rattle.css_drive.specs.declared.on_air.OnAir.{OnAir}
+use Rattle.css_drive.specs.TvStanding.{Plays, Settles}
 use Rattle.css_drive.proofs.tv_calls.put_all.Given as goal
 
 abbrev pub invariant-loop-out : goal.invariant-loop-out
-invariant-loop-out g l = (from : From) (air : OnAir) (place : Place)
-    → Settles place l.outs from (shown (g.O.Outside.told l.fn.outside) (g.O.Outside.counts l.fn.outside))
-    (with_tv air l.fn.tv)
-    → Settles place (drop l.out-index l.outs) from
-    (shown (g.O.Outside.told l.outside) (g.O.Outside.counts l.outside)) (with_tv air l.tv)
+invariant-loop-out g l = (place : Place)
+    → Plays g.O.Outside.told g.O.Outside.counts (Settles place l.outs) (Settles place (drop l.out-index l.outs))
+    l.fn.outside l.fn.tv l.outside l.tv (Ok l.out-index)

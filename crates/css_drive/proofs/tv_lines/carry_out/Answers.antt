@@ -15,7 +15,7 @@ returns-in-Ok g c from air lines x =
     let is : Some e ≡ event_of c.args.reading c.args.line.now.verb =
     rw c.in-Ok-Some.field-0-is at c.in-Ok-Some.ensures.value in
     let done = rw c.new-outs.ensures.items at c.in-Ok.ensures.outcome in
-    c.put_all.ensures from (past_line air) (Turned c.args.reading) (owing (Turned c.args.reading)
+    c.put_all.ensures (Turned c.args.reading) from (past_line air) (owing (Turned c.args.reading)
     (sym c.deref.ensures.value)
     (heard_of (line_happens x e is c.step.new.self.stage c.step.new.out.items done) c.step.new.self c.step.new.out.items
     done c.in-Ok.ensures.stands c.in-Ok.ensures.server))

@@ -16,11 +16,12 @@ welcome-requires g c =
 
 pub returns-in_err-welcome-clause-goes : goal.returns-in_err-welcome-clause-goes
 returns-in_err-welcome-clause-goes g c from script s =
-    at_err _ _ _ _ c.from_residual-in_err-welcome.ensures.1 (c.in_err-welcome.ensures.goes from
+    at_err _ _ _ _ c.from_residual-in_err-welcome.ensures.1 (c.in_err-welcome.ensures from c.begin.new.air
     (c.in_ok-serve.ensures from c.begin.new.air
     (may_take (c.in_ok-begin.ensures.goes from script s) (sym c.is_over.ensures ∙ c.if-is_over.false))))
 
 pub returns-clause-goes : goal.returns-clause-goes
 returns-clause-goes g c from script s =
-    c.hear_all.ensures.goes from (c.in_ok-welcome.ensures.goes from (c.in_ok-serve.ensures from c.begin.new.air
+    c.hear_all.ensures from c.begin.new.air (c.in_ok-welcome.ensures from c.begin.new.air
+    (c.in_ok-serve.ensures from c.begin.new.air
     (may_take (c.in_ok-begin.ensures.goes from script s) (sym c.is_over.ensures ∙ c.if-is_over.false))))

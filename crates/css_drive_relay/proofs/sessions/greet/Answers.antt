@@ -9,16 +9,17 @@ use Rattle.css_drive_relay.proofs.sessions.greet.Goals as goal
 use Rattle.css_drive_relay.proofs.sessions.greet.Goals.{in-Sent, in-Gone}
 
 pub returns-clause-goes : goal.returns-clause-goes
-returns-clause-goes g c start relay h s =
+returns-clause-goes g c run start h s =
     let pushed = ap {A = List ℕ} {B = Facts} (λ xs. record (facts_in c.args.live.now) { peers = xs })
     (rw c.in_ok-or_memory.ensures.ok at c.push.ensures.items) in
     let text = c.bytes.ensures ∙ (rw c.in_ok-text.ensures.ok at c.full_text.ensures) in
     elim c.match-branch-4.branch [
-      | in-Sent w ↦ rw w.live-is (steps.here_as welcomed pushed (steps.stands_on s (Wrote _ _)
+      | in-Sent w ↦ rw w.live-is (steps.here (steps.stands_with welcomed pushed (steps.stands_on s (Wrote _ _)
           (outcome.Sent, ap (λ x. Wrote c.args.peer x ∷ []) text) tt
-          (λ x. (x.0, steps.all_next (Came h) _ _ x.0, x.2)) (rw w.in-Sent.is at c.in_ok-send_text.ensures.told)))
-      | in-Gone w ↦ rw w.live-is (steps.here_as welcomed (w.forget.ensures ∙ ap (lost c.args.peer) pushed)
+          (λ x. (x.0, steps.all_next (Came h) _ _ x.0, x.2)) (rw w.in-Sent.is at c.in_ok-send_text.ensures.told))))
+      | in-Gone w ↦ rw (w.live-is, w.forget.ensures.relay) (steps.here (steps.stands_with welcomed
+          (w.forget.ensures.facts ∙ ap (lost c.args.peer) pushed)
           (steps.stands_on s (Gone _) (outcome.Gone, refl) (ap is_ts (steps.its_none s.runs refl))
           (λ x. let all = steps.all_without (Came h) c.args.peer _ x.0 in (all, steps.all_next (Came h) _ _ all, x.2))
-          (rw w.in-Gone.is at c.in_ok-send_text.ensures.told)))
+          (rw w.in-Gone.is at c.in_ok-send_text.ensures.told))))
     ]

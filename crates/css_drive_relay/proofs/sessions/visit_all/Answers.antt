@@ -1,43 +1,36 @@
-use Rattle.std.proofs.Common.{refl, sym, ◌∙◌, ap, arith}
+use Rattle.std.proofs.Common.{refl, sym, ◌∙◌, arith}
+use Rattle.std.proofs.lemmas.List.Elements.{same_from_all_zip}
 use Rattle.css_drive.proofs.CompanionSteps.{at_err}
-use Rattle.css_drive.proofs.TvLines.{peers_all}
-use Rattle.css_drive.proofs.TvOpens.{peer_from}
+use Rattle.css_drive.proofs.TvSteps.{peers_all, peer_from}
 use Rattle.css_drive_relay.proofs.Steps as steps
-use Rattle.css_drive_relay.specs.Standing.{facts_in, stood, visiting}
 use Rattle.css_drive_relay.proofs.sessions.visit_all.Goals as goal
 
 pub loop-peer-init : goal.loop-peer-init
 loop-peer-init g c = record {
-  goes = λ start relay h s.
-      steps.is_at_as (steps.here s)
-      (ap (λ xs. stood c.args.live.now (visiting c.args.what.now xs (facts_in c.args.live.now)))
-      (sym (c.deref-peer-items.ensures.value ∙ (rw c.in_ok-left.ensures.ok at c.accepted.ensures))));
-  last = refl;
-  keeps = record { made = refl; dialled = λ e. e; dials = omega arith; cut = tt };
+  goes = λ run start h s.
+      steps.visits c.args.live.now c.args.what.now (h, s)
+      (sym (c.deref-peer-items.ensures.value ∙ same_from_all_zip _ _ _ (rw c.in_ok-left.ensures.ok at
+      c.clone.ensures).cases.0 (λ x y e. e)));
+  keeps = record { made = refl; dialled = λ e. e; dials = omega arith; floor = λ le. le; cut = tt };
 }
 
 pub loop-peer-preserved : goal.loop-peer-preserved
 loop-peer-preserved g c = record {
-  goes = λ start relay h s.
-      let x = steps.is_at_as (c.loop-peer.invariant.goes start relay h s)
-      (ap (λ xs. stood c.loop-peer.live (visiting c.args.what.now xs (facts_in c.loop-peer.live)))
-      (peer_from c.deref-peer-items.result.now c.loop-peer.peer-index c.loop-peer-test.true)) in
-      c.in_ok-visit_one.ensures.goes start relay x.history _ x.stands;
-  last = c.in_ok-visit_one.ensures.last ∙ c.loop-peer.invariant.last;
+  goes = λ run start h s.
+      let x = steps.visits c.loop-peer.live c.args.what.now (c.loop-peer.invariant.goes run start h s)
+      (peer_from c.deref-peer-items.result.now c.loop-peer.peer-index c.loop-peer-test.true) in
+      c.in_ok-visit_one.ensures.goes run _ start x.0 x.1;
   keeps = steps.keeps_on c.loop-peer.invariant.keeps c.in_ok-visit_one.ensures.keeps;
 }
 
 pub returns-clause-goes : goal.returns-clause-goes
-returns-clause-goes g c start relay h s =
+returns-clause-goes g c run start h s =
     let over = c.loop-peer-test.false in
-    steps.is_at_as (c.loop-peer.invariant.goes start relay h s)
-    (ap (λ xs. stood c.loop-peer.live (visiting c.args.what.now xs (facts_in c.loop-peer.live)))
-    (peers_all c.deref-peer-items.result.now c.loop-peer.peer-index (omega (arith, over))))
+    steps.visits c.loop-peer.live c.args.what.now (c.loop-peer.invariant.goes run start h s)
+    (peers_all c.deref-peer-items.result.now c.loop-peer.peer-index (omega (arith, over)))
 
 pub returns-in_err-visit_one-clause-goes : goal.returns-in_err-visit_one-clause-goes
-returns-in_err-visit_one-clause-goes g c start relay h s =
-    let x = steps.is_at_as (c.loop-peer.invariant.goes start relay h s)
-    (ap (λ xs. stood c.loop-peer.live (visiting c.args.what.now xs (facts_in c.loop-peer.live)))
-    (peer_from c.deref-peer-items.result.now c.loop-peer.peer-index c.loop-peer-test.true)) in
-    at_err _ _ _ _ c.from_residual-in_err-visit_one.ensures.1
-    (c.in_err-visit_one.ensures.goes start relay x.history _ x.stands)
+returns-in_err-visit_one-clause-goes g c run start h s =
+    let x = steps.visits c.loop-peer.live c.args.what.now (c.loop-peer.invariant.goes run start h s)
+    (peer_from c.deref-peer-items.result.now c.loop-peer.peer-index c.loop-peer-test.true) in
+    at_err _ _ _ _ c.from_residual-in_err-visit_one.ensures.1 (c.in_err-visit_one.ensures.goes run _ start x.0 x.1)

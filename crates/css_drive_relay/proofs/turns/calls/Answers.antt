@@ -1,40 +1,55 @@
+use Rattle.std.proofs.Common.{refl}
 use Rattle.css_drive.proofs.CompanionSteps.{at_err}
-use Rattle.css_drive_relay.proofs.Steps.{on_at, on_from}
 use Rattle.css_drive_relay.proofs.turns.calls.Goals as goal
+
+pub returns-in_err-dial_cii-clause-goes : goal.returns-in_err-dial_cii-clause-goes
+returns-in_err-dial_cii-clause-goes g c start h s =
+    at_err _ _ _ _ c.from_residual.ensures.1 (c.in_err-dial_cii.ensures.goes start h _ s refl)
 
 pub returns-in_err-dial_wc-clause-goes : goal.returns-in_err-dial_wc-clause-goes
 returns-in_err-dial_wc-clause-goes g c start h s =
+    let cii = c.in_ok-dial_cii.ensures.goes start h _ s refl in
     at_err _ _ _ _ c.from_residual-in_err-dial_wc.ensures.1
-    (on_from (c.in_ok-dial_cii.ensures.goes start _ h s) (c.in_err-dial_wc.ensures.goes start))
+    (c.in_err-dial_wc.ensures.goes start cii.0 cii.1 cii.2 cii.3)
 
 pub returns-in_err-ask-clause-goes : goal.returns-in_err-ask-clause-goes
 returns-in_err-ask-clause-goes g c start h s =
-    at_err _ _ _ _ c.from_residual-in_err-ask.ensures.1
-    (on_from (on_from (c.in_ok-dial_cii.ensures.goes start _ h s) (c.in_ok-dial_wc.ensures.goes start))
-    (c.in_err-ask.ensures.goes start))
+    let cii = c.in_ok-dial_cii.ensures.goes start h _ s refl in
+    let wc = c.in_ok-dial_wc.ensures.goes start cii.0 cii.1 cii.2 cii.3 in
+    at_err _ _ _ _ c.from_residual-in_err-ask.ensures.1 (c.in_err-ask.ensures.goes start wc.0 wc.1 wc.2 wc.3)
 
 pub returns-in_err-serve-clause-goes : goal.returns-in_err-serve-clause-goes
 returns-in_err-serve-clause-goes g c start h s =
+    let cii = c.in_ok-dial_cii.ensures.goes start h _ s refl in
+    let wc = c.in_ok-dial_wc.ensures.goes start cii.0 cii.1 cii.2 cii.3 in
+    let asked = c.in_ok-ask.ensures.goes start wc.0 wc.1 wc.2 wc.3 in
     at_err _ _ _ _ c.from_residual-in_err-serve.ensures.1
-    (on_from (on_from (on_from (c.in_ok-dial_cii.ensures.goes start _ h s) (c.in_ok-dial_wc.ensures.goes start))
-    (c.in_ok-ask.ensures.goes start)) (c.in_err-serve.ensures.goes start))
+    (c.in_err-serve.ensures.goes _ start asked.0 asked.1 asked.2 asked.3)
 
 pub returns-in_err-welcome-clause-goes : goal.returns-in_err-welcome-clause-goes
 returns-in_err-welcome-clause-goes g c start h s =
-    at_err _ _ _ _ c.from_residual-in_err-welcome.ensures.1
-    (on_at (on_from (on_from (on_from (c.in_ok-dial_cii.ensures.goes start _ h s) (c.in_ok-dial_wc.ensures.goes start))
-    (c.in_ok-ask.ensures.goes start)) (c.in_ok-serve.ensures.goes start)) (c.in_err-welcome.ensures.goes start _))
+    let cii = c.in_ok-dial_cii.ensures.goes start h _ s refl in
+    let wc = c.in_ok-dial_wc.ensures.goes start cii.0 cii.1 cii.2 cii.3 in
+    let asked = c.in_ok-ask.ensures.goes start wc.0 wc.1 wc.2 wc.3 in
+    let served = c.in_ok-serve.ensures.goes _ start asked.0 asked.1 asked.2 asked.3 in
+    at_err _ _ _ _ c.from_residual-in_err-welcome.ensures.1 (c.in_err-welcome.ensures.goes _ start served.0 served.1)
 
 pub returns-in_err-hear_television-clause-goes : goal.returns-in_err-hear_television-clause-goes
 returns-in_err-hear_television-clause-goes g c start h s =
+    let cii = c.in_ok-dial_cii.ensures.goes start h _ s refl in
+    let wc = c.in_ok-dial_wc.ensures.goes start cii.0 cii.1 cii.2 cii.3 in
+    let asked = c.in_ok-ask.ensures.goes start wc.0 wc.1 wc.2 wc.3 in
+    let served = c.in_ok-serve.ensures.goes _ start asked.0 asked.1 asked.2 asked.3 in
+    let came = c.in_ok-welcome.ensures.goes _ start served.0 served.1 in
     at_err _ _ _ _ c.from_residual-in_err-hear_television.ensures.1
-    (on_at (on_at (on_from (on_from (on_from (c.in_ok-dial_cii.ensures.goes start _ h s)
-    (c.in_ok-dial_wc.ensures.goes start)) (c.in_ok-ask.ensures.goes start)) (c.in_ok-serve.ensures.goes start))
-    (c.in_ok-welcome.ensures.goes start _)) (c.in_err-hear_television.ensures.goes start))
+    (c.in_err-hear_television.ensures.goes _ start came.0 came.1)
 
 pub returns-clause-goes : goal.returns-clause-goes
 returns-clause-goes g c start h s =
-    on_at (on_at (on_at (on_from (on_from (on_from (c.in_ok-dial_cii.ensures.goes start _ h s)
-    (c.in_ok-dial_wc.ensures.goes start)) (c.in_ok-ask.ensures.goes start)) (c.in_ok-serve.ensures.goes start))
-    (c.in_ok-welcome.ensures.goes start _)) (c.in_ok-hear_television.ensures.goes start))
-    (c.visit_all.ensures.goes start _)
+    let cii = c.in_ok-dial_cii.ensures.goes start h _ s refl in
+    let wc = c.in_ok-dial_wc.ensures.goes start cii.0 cii.1 cii.2 cii.3 in
+    let asked = c.in_ok-ask.ensures.goes start wc.0 wc.1 wc.2 wc.3 in
+    let served = c.in_ok-serve.ensures.goes _ start asked.0 asked.1 asked.2 asked.3 in
+    let came = c.in_ok-welcome.ensures.goes _ start served.0 served.1 in
+    let told = c.in_ok-hear_television.ensures.goes _ start came.0 came.1 in
+    c.visit_all.ensures.goes _ start told.0 told.1

@@ -1,20 +1,16 @@
-use Rattle.std.proofs.Common.{◌∙◌, sym, arith, []}
+use Rattle.std.proofs.Common.{◌∙◌, sym, arith}
 use Rattle.css_drive.proofs.CompanionEnds.{below_most}
-use Rattle.css_drive.proofs.CompanionRuns.{risen_to}
+use Rattle.css_drive.proofs.CompanionEnds.{risen_to}
 use Rattle.css_drive_relay.proofs.Steps as steps
-use Rattle.css_drive_relay.proofs.Steps.{here_as}
-use Rattle.css_drive_relay.specs.Places.{Asked}
 use Rattle.css_drive_relay.specs.Standing.{facts_in}
 use Rattle.css_drive_relay.proofs.turns.make_turns.Goals as goal
 
 pub turns-init : goal.turns-init
 turns-init g c = record {
-  goes = λ start h s.
-      here_as (λ f. Asked [])
-      (steps.first_facts _ _ (c.new.ensures ∙ c.empty.ensures.value) c.new-2.ensures.items) s;
+  goes = λ start h s. (h, s);
   floor = c.requires.floor;
   dials = omega arith;
-  tried = λ some. absurd (omega (arith, some));
+  tried = λ some. absurd (omega (arith, some, c.requires.fresh));
 }
 
 pub turns-preserved : goal.turns-preserved
@@ -23,7 +19,7 @@ turns-preserved g c =
     record {
       goes = λ start h s.
           let x = i.goes start h s in
-          c.in_default.ensures.goes start x.history x.stands (sym c.goes_on.ensures ∙ c.turns-test.true);
+          c.in_default.ensures.goes (sym c.goes_on.ensures ∙ c.turns-test.true) start x.0 x.1;
       floor = c.in_default.ensures.floor;
       dials = omega (arith, c.turn.ensures.dials, i.dials);
       tried = c.in_default.ensures.tried (g.O.Outside.counts c.args.outside.now) i.dials i.tried;
@@ -40,7 +36,7 @@ returns-in-Err-clause-counted g c =
 pub returns-clause-ends : goal.returns-clause-ends
 returns-clause-ends g c start h s =
     let x = c.turns.invariant.goes start h s in
-    c.finish.ensures.ends start _ x.history x.stands (sym c.goes_on.ensures ∙ c.turns-test.false)
+    c.finish.ensures.ends _ start x.0 x.1 (sym c.goes_on.ensures ∙ c.turns-test.false)
 
 pub returns-clause-counted : goal.returns-clause-counted
 returns-clause-counted g c =

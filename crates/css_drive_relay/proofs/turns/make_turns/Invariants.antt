@@ -3,17 +3,16 @@ use Rattle.css_model.specs.History.{History}
 use Rattle.css_outside.specs.Limits.{most_turns}
 use Rattle.css_drive.specs.CompanionStanding.{Shown, shown}
 use Rattle.css_drive_relay.specs.Places.{Asked}
-use Rattle.css_drive_relay.specs.Standing.{listening, stood, Stands, IsAt, HasTried}
+use Rattle.css_drive_relay.specs.Standing.{stood, Stands, IsAt, HasTried}
 use Rattle.css_drive_relay.proofs.turns.make_turns.Given as goal
 
 abbrev pub invariant-turns : goal.invariant-turns
 invariant-turns g l = record {
   goes : (start : Shown) (history : History)
-      → Stands l.run start (shown (g.O.Outside.told l.fn.outside) (g.O.Outside.counts l.fn.outside)) l.fn.relay
-      listening history
-      → IsAt l.run start (shown (g.O.Outside.told l.outside) (g.O.Outside.counts l.outside)) l.relay
-      (stood l.live (Asked []));
-  floor : l.relay.companion.client.floor ≤ (g.O.Outside.counts l.outside).last;
+      → Stands l.run start (shown (g.O.Outside.told l.fn.outside) (g.O.Outside.counts l.fn.outside)) l.fn.live.relay
+      (stood l.fn.live (Asked [])) history
+      → IsAt (λ f. Asked []) l.run start (shown (g.O.Outside.told l.outside) (g.O.Outside.counts l.outside)) l.live;
+  floor : l.live.relay.companion.client.floor ≤ (g.O.Outside.counts l.outside).last;
   dials : (g.O.Outside.counts l.fn.outside).dial_faults ≤ (g.O.Outside.counts l.outside).dial_faults;
   tried : HasTried (g.O.Outside.counts l.fn.outside) (g.O.Outside.counts l.outside) l.live;
 }

@@ -1,28 +1,26 @@
-use Rattle.std.proofs.Common.{◌∙◌, sym, ap, arith, ℕ, Some, Option}
+use Rattle.std.proofs.Common.{◌∙◌, sym, ap, ℕ, Some, Option}
 use Rattle.std.specs.Prelude.{unwrap_or}
-use Rattle.std.proofs.lemmas.Result.{on_ok_weaker}
 use Rattle.css_outside.specs.declared.calls.Clocked.{Clocked}
 use Rattle.css_drive.specs.CompanionTurns.{is_late}
-use Rattle.css_drive.proofs.CompanionRuns.{risen_from, risen_to}
+use Rattle.css_drive.proofs.CompanionEnds.{risen_to}
 use Rattle.css_drive_relay.specs.Places.{Facts, with_turn}
 use Rattle.css_drive_relay.specs.Standing.{facts_in}
 use Rattle.css_drive_relay.proofs.Steps as steps
 use Rattle.css_drive_relay.proofs.turns.turn.Goals as goal
 
 pub returns-then-is_late-clause-goes : goal.returns-then-is_late-clause-goes
-returns-then-is_late-clause-goes g c start h s on =
+returns-then-is_late-clause-goes g c on start h s =
     let clocked : Clocked = c.in_ok-reading.field-0 in
     let now : Facts = with_turn clocked.reading (facts_in c.read.new.live) in
-    steps.begun {clocked = clocked} s on c.in_ok-reading.ensures.told
-    (ap {A = ℕ} (λ n. record now { first = Some n }) c.unwrap_or.ensures) c.is_late.ensures c.if-is_late.true
+    steps.here (steps.begun {clocked = clocked} s on c.in_ok-reading.ensures.told
+    (ap {A = ℕ} (λ n. record now { first = Some n }) c.unwrap_or.ensures) c.is_late.ensures c.if-is_late.true)
 
 pub returns-clause-goes : goal.returns-clause-goes
-returns-clause-goes g c start h s on =
+returns-clause-goes g c on start h s =
     let clocked : Clocked = c.in_ok-reading.field-0 in
     let now : Facts = with_turn clocked.reading (facts_in c.read.new.live) in
-    steps.on_at (steps.begun {clocked = clocked} s on c.in_ok-reading.ensures.told
+    c.calls.ensures.goes start _ (steps.begun {clocked = clocked} s on c.in_ok-reading.ensures.told
     (ap {A = ℕ} (λ n. record now { first = Some n }) c.unwrap_or.ensures) c.is_late.ensures c.if-is_late.false)
-    (c.calls.ensures.goes start)
 
 -- No dial is made in the last turn by time. The first reading stays the first, so that turn isn't the first one.
 pub returns-then-is_late-clause-tried : goal.returns-then-is_late-clause-tried
@@ -37,9 +35,3 @@ returns-then-is_late-clause-tried g c before le tried some none =
     (ap {A = Option ℕ} (λ o. is_late limit (Some (unwrap_or o reading)) (Some reading)) (sym same)
     ∙ ap {A = ℕ} (λ n. is_late limit (Some n) (Some reading)) (sym c.unwrap_or.ensures) ∙ last))
     (c.read.ensures.keeps.dialled none))
-
-pub returns-clause-tried : goal.returns-clause-tried
-returns-clause-tried g c before le tried =
-    let was = c.read.ensures.keeps.dials in
-    on_ok_weaker c.calls.result (λ some started none. risen_from _ _ _ (omega (arith, le, was)) (some none))
-    c.calls.ensures.tried

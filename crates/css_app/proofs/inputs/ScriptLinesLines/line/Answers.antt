@@ -1,4 +1,4 @@
-use Rattle.css_app.proofs.Taken.{stands-more}
+use Rattle.css_app.proofs.Commands.{stands-more}
 use Rattle.css_app.proofs.inputs.ScriptLinesLines.line.Goals as goal
 
 pub returns-in-Ok-clause-stands : goal.returns-in-Ok-clause-stands

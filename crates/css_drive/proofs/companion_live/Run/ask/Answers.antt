@@ -1,5 +1,5 @@
 use Rattle.std.proofs.Common.{sym}
-use Rattle.css_drive.proofs.CompanionCalls as calls
+use Rattle.css_drive.proofs.CompanionSteps as calls
 use Rattle.css_drive.proofs.companion_live.Run.ask.Goals as goal
 
 pub returns-clause-goes : goal.returns-clause-goes

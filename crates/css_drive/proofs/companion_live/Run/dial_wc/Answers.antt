@@ -1,9 +1,9 @@
 use Rattle.std.proofs.Common.{refl, ap, Some, None, ℕ, ◌∷◌}
 use Rattle.css_model.specs.declared.Kind.TheVariants as kind
-use Rattle.css_drive.specs.CompanionStanding.{Facts}
+use Rattle.css_drive.specs.declared.companion_live.Live.{Live}
 use Rattle.css_drive.specs.Notes.{standpoint}
-use Rattle.css_drive.proofs.CompanionSteps.{comes, stands_tried, failed, at_err}
-use Rattle.css_drive.proofs.CompanionCalls as calls
+use Rattle.css_drive.proofs.CompanionSteps.{comes, stands_tried, at_err, failed}
+use Rattle.css_drive.proofs.CompanionSteps as calls
 use Rattle.css_drive.proofs.companion_live.Run.dial_wc.Goals as goal
 
 pub returns-clause-goes : goal.returns-clause-goes
@@ -13,7 +13,7 @@ returns-clause-goes g c before started h s k d =
     let t = calls.wc_due s d c.in-None.is _ (c.state.ensures.meaning h k.stands) _ gives in
     let call = rw c.in-Some-2.is at c.in_ok-peer.ensures in
     comes (stands_tried s kind.Wc c.in-Some.to t (Some p) call.told
-    (call.saw (standpoint _ (_ ∷ h)) started _ s.saw_so) _ (ap {A = Facts} (λ x. record x { wc = Some p }) s.facts))
+    (call.saw (standpoint _ (_ ∷ h)) started _ s.saw_so) (ap {A = Live} (λ x. record x { wc = Some p }) s.facts))
     (calls.knows_tried kind.Wc c.in-Some.to (Some p) refl k) _ refl
 
 pub returns-in_default-3-clause-goes : goal.returns-in_default-3-clause-goes
@@ -21,16 +21,16 @@ returns-in_default-3-clause-goes g c before started h s k d =
     let gives = rw c.in-Some.is at c.in_ok-to.ensures.gives in
     let t = calls.wc_due s d c.in-None.is _ (c.state.ensures.meaning h k.stands) _ gives in
     let call = rw c.in_default-3.is at c.in_ok-peer.ensures in
-    comes (stands_tried s kind.Wc c.in-Some.to t None call.told (call.saw (standpoint _ (_ ∷ h)) started _ s.saw_so) _
+    comes (stands_tried s kind.Wc c.in-Some.to t None call.told (call.saw (standpoint _ (_ ∷ h)) started _ s.saw_so)
     s.facts) (calls.knows_tried kind.Wc c.in-Some.to None tt k) _ refl
-
-pub returns-in_err-peer-clause-goes : goal.returns-in_err-peer-clause-goes
-returns-in_err-peer-clause-goes g c before started h s k d =
-    failed s _ _ k c.from_residual-in_err-peer.ensures.1 c.in_err-peer.ensures.told _
-    (c.in_err-peer.ensures.saw (standpoint c.args.config.now h) started _ s.saw_so)
 
 pub returns-in_err-to-clause-goes : goal.returns-in_err-to-clause-goes
 returns-in_err-to-clause-goes g c before started h s k d =
     at_err _ _ _ c.from_residual.result c.from_residual.ensures.1
     (calls.bad_stops s k.stands.client.lawful _ _ _ _ _ c.in_err-to.ensures.gives
     (calls.wc_due s d c.in-None.is _ (c.state.ensures.meaning h k.stands) _ refl))
+
+pub returns-in_err-peer-clause-goes : goal.returns-in_err-peer-clause-goes
+returns-in_err-peer-clause-goes g c before started h s k d =
+    failed s _ _ k c.from_residual-in_err-peer.ensures.1 c.in_err-peer.ensures.told _
+    (c.in_err-peer.ensures.saw (standpoint c.args.config.now h) started _ s.saw_so)

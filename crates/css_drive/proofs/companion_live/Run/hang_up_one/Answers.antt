@@ -1,6 +1,5 @@
 use Rattle.std.proofs.Common.{sym, ap, ◌∙◌}
 use Rattle.css_drive.specs.CompanionDue.{hang_up}
-use Rattle.css_drive.specs.CompanionStanding.{Facts, still}
 use Rattle.css_drive.proofs.CompanionSteps.{at_err, fails_over, stops_by_fault}
 use Rattle.css_drive.proofs.CompanionEnds as ends
 use Rattle.css_drive.proofs.companion_live.Run.hang_up_one.Goals as goal
@@ -13,10 +12,6 @@ returns-clause-goes g c cfg before started end x rest d =
 pub returns-clause-shut : goal.returns-clause-shut
 returns-clause-shut g c =
     ends.shut c.args.session _ c.close.new.self c.close.ensures (sym c.peer_of.ensures ∙ c.in-Some.is)
-
-pub returns-clause-cii : goal.returns-clause-cii
-returns-clause-cii g c none =
-    ap {A = Facts} (λ x. x.cii_open) c.close.ensures ∙ ap (λ o. still o c.in-Some.peer) none
 
 pub returns-in_err-hang_up-clause-goes : goal.returns-in_err-hang_up-clause-goes
 returns-in_err-hang_up-clause-goes g c cfg before started end x rest d =

@@ -1,37 +1,26 @@
-use Rattle.std.proofs.Common.{refl, ◌∙◌, ap, ◌∷◌, ◌++◌}
-use Rattle.css_model.specs.declared.Why.TheVariants as why
-use Rattle.css_model.specs.History.{Clock, Took}
-use Rattle.css_outside.specs.Outsides.{sleep_entries}
-use Rattle.css_outside.specs.declared.calls.Clocked.{Clocked}
+use Rattle.std.proofs.Common.{refl, ◌∙◌, ap, ◌∷◌}
+use Rattle.css_model.specs.History.{Took}
 use Rattle.css_drive.specs.Notes.{standpoint}
 use Rattle.css_drive.proofs.CompanionSteps.{comes, stops_here, failed}
-use Rattle.css_drive.proofs.CompanionCalls as calls
+use Rattle.css_drive.proofs.CompanionSteps as calls
 use Rattle.css_drive.proofs.companion_live.Run.land.Goals as goal
 
 pub returns-then-clocked-clause-goes : goal.returns-then-clocked-clause-goes
 returns-then-clocked-clause-goes g c before started h p s k =
     let read = c.in_ok-clocked.ensures.told in
-    let clocked : Clocked = c.in_ok-clocked.clocked in
-    let bytes = c.args.bytes.now in
-    let cfg = c.args.config.now in
-    let taken = read.known cfg _ (calls.knows_plain (Took p bytes) k refl refl refl refl refl refl refl) in
-    comes (calls.stands_landed s clocked read
-    (c.landed.ensures (standpoint cfg (Took p bytes ∷ h)) taken started _ c.in_ok-clocked.ensures.on
-    (c.in_ok-clocked.ensures.saw started _ s.saw_so)))
-    (rw c.if-clocked.true (calls.knows_plain (Clock why.Land clocked.reading) (rw c.if-clocked.true at taken) refl refl
-    refl refl refl refl refl)) _ refl
+    let taken = read.known _ _ (calls.knows_plain (Took p c.args.bytes.now) k refl refl refl refl refl refl refl) in
+    comes (calls.stands_landed s _ read (c.landed.ensures (standpoint _ (_ ∷ h)) taken started _
+    c.in_ok-clocked.ensures.on (c.in_ok-clocked.ensures.saw started _ s.saw_so)))
+    (rw c.if-clocked.true (calls.knows_plain _ (rw c.if-clocked.true at taken) refl refl refl refl refl refl refl)) _
+    refl
 
 pub returns-in-Ok-clause-goes : goal.returns-in-Ok-clause-goes
 returns-in-Ok-clause-goes g c before started h p s k =
     let read = c.in_ok-clocked.ensures.told in
-    let clocked : Clocked = c.in_ok-clocked.clocked in
-    let bytes = c.args.bytes.now in
-    let cfg = c.args.config.now in
-    let taken = read.known cfg _ (calls.knows_plain (Took p bytes) k refl refl refl refl refl refl refl) in
-    comes (calls.stands_landed s clocked read
-    (c.landed.ensures (standpoint cfg (Took p bytes ∷ h)) taken started _ c.in_ok-clocked.ensures.on
-    (c.in_ok-clocked.ensures.saw started _ s.saw_so)))
-    (rw c.if-clocked.false (let k2 = rw c.if-clocked.false at (read.known cfg h k) in record {
+    let taken = read.known _ _ (calls.knows_plain (Took p c.args.bytes.now) k refl refl refl refl refl refl refl) in
+    comes (calls.stands_landed s _ read (c.landed.ensures (standpoint _ (_ ∷ h)) taken started _
+    c.in_ok-clocked.ensures.on (c.in_ok-clocked.ensures.saw started _ s.saw_so)))
+    (rw c.if-clocked.false (let k2 = rw c.if-clocked.false at (read.known _ h k) in record {
       stands = c.in-Ok.ensures.stands h p k2.stands;
       setup = ap (λ x. x.setup) c.in-Ok.ensures.keeps ∙ k2.setup;
       own = c.in-Ok.ensures.own ∙ k2.own;
@@ -40,15 +29,10 @@ returns-in-Ok-clause-goes g c before started h p s k =
 pub returns-in-Err-clause-goes : goal.returns-in-Err-clause-goes
 returns-in-Err-clause-goes g c before started h p s k =
     let read = c.in_ok-clocked.ensures.told in
-    let clocked : Clocked = c.in_ok-clocked.clocked in
-    let bytes = c.args.bytes.now in
-    let cfg = c.args.config.now in
-    let taken = read.known cfg _ (calls.knows_plain (Took p bytes) k refl refl refl refl refl refl refl) in
-    stops_here (calls.stands_landed s clocked read
-    (c.landed.ensures (standpoint cfg (Took p bytes ∷ h)) taken started _ c.in_ok-clocked.ensures.on
-    (c.in_ok-clocked.ensures.saw started _ s.saw_so)))
-    (calls.lawful_plain (Clock why.Land clocked.reading) (sleep_entries clocked.slept ++ (Took p bytes ∷ h))
-    taken.stands.client.lawful refl refl) _ _ tt tt
+    let taken = read.known _ _ (calls.knows_plain (Took p c.args.bytes.now) k refl refl refl refl refl refl refl) in
+    stops_here (calls.stands_landed s _ read (c.landed.ensures (standpoint _ (_ ∷ h)) taken started _
+    c.in_ok-clocked.ensures.on (c.in_ok-clocked.ensures.saw started _ s.saw_so)))
+    (calls.lawful_plain _ _ taken.stands.client.lawful refl refl) _ _ tt tt
 
 pub returns-in_err-clocked-clause-goes : goal.returns-in_err-clocked-clause-goes
 returns-in_err-clocked-clause-goes g c before started h p s k =

@@ -7,7 +7,7 @@ use Rattle.css_drive.specs.CompanionDue.{due_at, sending, window_text, from_ask,
 use Rattle.css_drive.specs.CompanionStanding.{spoken}
 use Rattle.css_drive.specs.Proper.{SendText}
 use Rattle.css_drive.specs.declared.config.DriveConfig.{DriveConfig}
-use Rattle.css_drive.proofs.CompanionSteps.{comes, knows_as, stops_by_memory, at_err}
+use Rattle.css_drive.proofs.CompanionSteps.{comes, stops_by_memory, at_err}
 use Rattle.css_drive.proofs.companion_live.Run.present.Goals as goal
 
 -- after the presentation nothing more is said
@@ -21,10 +21,10 @@ returns-clause-goes g c at before started h s k when =
     let cfg = c.args.config.now in
     let p : ℕ = c.args.peer in
     let x = c.in_ok-say.ensures.goes at cfg (SetUp p) before started h s
-    (knows_as _ _ _ h c.in_ok-text.ensures.same k) (
+    (rw c.in_ok-text.ensures.same k) (
       when,
       ap (λ o. sending p (option_map window_text o) (from_ask cfg h)) c.in-Some.is
-          ∙ ap (λ b. SendText p b) (sym (c.bytes.ensures ∙ c.in_ok-text.ensures.text)),
+          ∙ ap (λ b. SendText p b) (sym (c.bytes.ensures ∙ c.in_ok-text.ensures.text _ refl)),
     ) in
     comes x.stands x.known _ (x.next.1 ∙ after cfg p x.history _)
 
@@ -33,10 +33,10 @@ returns-in_err-say-clause-goes g c at before started h s k when =
     let cfg = c.args.config.now in
     let p : ℕ = c.args.peer in
     at_err _ _ _ _ c.from_residual-in_err-say.ensures.1 (c.in_err-say.ensures.goes at cfg (SetUp p) before started h s
-    (knows_as _ _ _ h c.in_ok-text.ensures.same k) (
+    (rw c.in_ok-text.ensures.same k) (
       when,
       ap (λ o. sending p (option_map window_text o) (from_ask cfg h)) c.in-Some.is
-          ∙ ap (λ b. SendText p b) (sym (c.bytes.ensures ∙ c.in_ok-text.ensures.text)),
+          ∙ ap (λ b. SendText p b) (sym (c.bytes.ensures ∙ c.in_ok-text.ensures.text _ refl)),
     ))
 
 pub returns-in_err-text-clause-goes : goal.returns-in_err-text-clause-goes

@@ -5,11 +5,11 @@ use Rattle.css_model.specs.Wire.{encoded, request_at}
 use Rattle.css_outside.specs.Outsides.{clock_entries}
 use Rattle.css_outside.specs.declared.calls.Clocked.{Clocked}
 use Rattle.css_drive.specs.CompanionDue.{send_to}
-use Rattle.css_drive.specs.CompanionStanding.{Facts}
+use Rattle.css_drive.specs.declared.companion_live.Live.{Live}
 use Rattle.css_drive.specs.Notes.{standpoint}
 use Rattle.css_drive.specs.Proper.{SendDatagram}
-use Rattle.css_drive.proofs.CompanionSteps.{comes, stands_adds, stops_by_fault, failed, fails_over, at_err}
-use Rattle.css_drive.proofs.CompanionCalls as calls
+use Rattle.css_drive.proofs.CompanionSteps.{comes, stands_adds, stops_by_fault, fails_over, at_err, failed}
+use Rattle.css_drive.proofs.CompanionSteps as calls
 use Rattle.css_drive.proofs.companion_live.Run.request.Goals as goal
 
 pub returns-clause-goes : goal.returns-clause-goes
@@ -23,25 +23,23 @@ returns-clause-goes g c some before started h s k d =
     (c.note_sleep.ensures (standpoint cfg h) started _ c.in_ok-clocked.ensures.on
     (c.in_ok-clocked.ensures.saw started _ s.saw_so)) in
     let k1 = read.known cfg h k in
-    let wc = ap {A = Facts} (λ x. x.wc) s1.facts ∙ ap {A = Facts} (λ x. x.wc) read.only ∙ some in
+    let wc = ap {A = Live} (λ x. x.wc) s1.facts ∙ ap {A = Live} (λ x. x.wc) read.only ∙ some in
     let e1 = ap (λ o. send_to o (encoded (request_at clocked.reading))) wc
     ∙ ap (λ b. SendDatagram p b) (sym c.ask-bytes.ensures.request) in
     comes (stands_adds s1 (SendDatagram p c.ask-bytes.result) e1 (Sent p c.ask-bytes.result ∷ []) refl s1.peers
     c.in_ok-send_datagram.ensures.told
-    (c.asked.ensures (standpoint cfg asked) started _ c.in_ok-check.ensures.on s1.saw_so) _
-    (ap {A = Facts} (λ x. record x { asked = x.turn }) s1.facts))
+    (c.asked.ensures (standpoint cfg asked) started _ c.in_ok-check.ensures.on s1.saw_so)
+    (ap {A = Live} (λ x. record x { asked = x.turn }) s1.facts))
     (record {
       stands = c.ask-bytes.ensures.stands _ p k1.stands;
-      setup = ap (λ x. x.setup) c.ask-bytes.ensures.keeps
-          ∙ k1.setup;
+      setup = ap (λ x. x.setup) c.ask-bytes.ensures.keeps ∙ k1.setup;
       own = c.ask-bytes.ensures.own ∙ k1.own;
     }) _ refl
 
 pub returns-in_err-send_datagram-clause-goes : goal.returns-in_err-send_datagram-clause-goes
 returns-in_err-send_datagram-clause-goes g c some before started h s k d =
     let read = c.in_ok-clocked.ensures.told in
-    let clocked : Clocked = c.in_ok-clocked.clocked in
-    let s1 = calls.stands_asked {after = g.W.Observes.saw started c.note_sleep.new.observer} s d clocked read
+    let s1 = calls.stands_asked {after = g.W.Observes.saw started c.note_sleep.new.observer} s d _ read
     (c.note_sleep.ensures (standpoint c.args.config.now h) started _ c.in_ok-clocked.ensures.on
     (c.in_ok-clocked.ensures.saw started _ s.saw_so)) in
     let l = (c.ask-bytes.ensures.stands _ c.args.peer (read.known _ h k).stands).client.lawful in
@@ -52,8 +50,7 @@ returns-in_err-send_datagram-clause-goes g c some before started h s k d =
 pub returns-in_err-check-clause-goes : goal.returns-in_err-check-clause-goes
 returns-in_err-check-clause-goes g c some before started h s k d =
     let read = c.in_ok-clocked.ensures.told in
-    let clocked : Clocked = c.in_ok-clocked.clocked in
-    let s1 = calls.stands_asked {after = g.W.Observes.saw started c.note_sleep.new.observer} s d clocked read
+    let s1 = calls.stands_asked {after = g.W.Observes.saw started c.note_sleep.new.observer} s d _ read
     (c.note_sleep.ensures (standpoint c.args.config.now h) started _ c.in_ok-clocked.ensures.on
     (c.in_ok-clocked.ensures.saw started _ s.saw_so)) in
     let l = (c.ask-bytes.ensures.stands _ c.args.peer (read.known _ h k).stands).client.lawful in

@@ -5,9 +5,8 @@ use Rattle.css_outside.specs.Outsides.{sleep_entries}
 use Rattle.css_outside.specs.declared.calls.Clocked.{Clocked}
 use Rattle.css_drive.specs.Notes.{standpoint}
 use Rattle.css_drive.proofs.CompanionSteps.{comes, failed}
-use Rattle.css_drive.proofs.CompanionCalls as calls
+use Rattle.css_drive.proofs.CompanionSteps as calls
 use Rattle.css_drive.proofs.CompanionEnds as ends
-use Rattle.css_drive.proofs.CompanionRuns as runs
 use Rattle.css_drive.proofs.companion_live.Run.start.Goals as goal
 
 pub returns-then-due-clause-goes : goal.returns-then-due-clause-goes
@@ -16,18 +15,16 @@ returns-then-due-clause-goes g c before started h s k d =
     let clocked : Clocked = c.in_ok-clocked.clocked in
     let cfg = c.args.config.now in
     let live = c.read.new.self.live in
-    let slept = sleep_entries clocked.slept ++ h in
     let known = read.known cfg h k in
     let f = calls.read_facts s read in
     let due = sym c.reports_at-due.ensures ∙ c.if-due.true in
     let report = c.report-report.result in
-    let so = runs.reports_so cfg _ slept clocked.reading report known (c.report-report.ensures.report _ known.stands) in
-    let after = g.W.Observes.saw started c.reported.new.self in
-    let saw = c.reported.ensures (standpoint cfg h) known started _ c.in_ok-clocked.ensures.on
-    (c.in_ok-clocked.ensures.saw started _ s.saw_so) in
-    comes (calls.stands_read s read d (subst after (sym (ends.begun_notes cfg slept live clocked.reading f true due _
-    (calls.slept_noted cfg h clocked.slept) report so)) saw) _
-    (ends.begun_facts cfg slept live clocked.reading f true due _ c.unwrap_or.ensures))
+    let so = ends.reports_so cfg _ _ clocked.reading report known (c.report-report.ensures.report _ known.stands) in
+    comes (calls.stands_read s read d (subst (g.W.Observes.saw started c.reported.new.self)
+    (sym (ends.begun_notes cfg _ live clocked.reading f true due _ (calls.slept_noted cfg h clocked.slept) report so))
+    (c.reported.ensures (standpoint cfg h) known started _ c.in_ok-clocked.ensures.on
+    (c.in_ok-clocked.ensures.saw started _ s.saw_so)))
+    (ends.begun_facts cfg (sleep_entries clocked.slept ++ h) live clocked.reading f true due _ c.unwrap_or.ensures))
     (calls.knows_plain (Clock why.Turn clocked.reading) known refl refl refl refl refl refl refl) _ refl
 
 pub returns-clause-goes : goal.returns-clause-goes
@@ -36,16 +33,14 @@ returns-clause-goes g c before started h s k d =
     let clocked : Clocked = c.in_ok-clocked.clocked in
     let cfg = c.args.config.now in
     let live = c.read.new.self.live in
-    let slept = sleep_entries clocked.slept ++ h in
     let known = read.known cfg h k in
     let f = calls.read_facts s read in
     let due = sym c.reports_at-due.ensures ∙ c.if-due.false in
-    let after = g.W.Observes.saw started c.turned.new.self in
-    let saw = c.turned.ensures (standpoint cfg h) known started _ c.in_ok-clocked.ensures.on
-    (c.in_ok-clocked.ensures.saw started _ s.saw_so) in
-    comes (calls.stands_read s read d (subst after (sym (ends.begun_notes cfg slept live clocked.reading f false due _
-    (calls.slept_noted cfg h clocked.slept) _ refl)) saw) _
-    (ends.begun_facts cfg slept live clocked.reading f false due _ c.unwrap_or.ensures))
+    comes (calls.stands_read s read d (subst (g.W.Observes.saw started c.turned.new.self)
+    (sym (ends.begun_notes cfg _ live clocked.reading f false due _ (calls.slept_noted cfg h clocked.slept) _ refl))
+    (c.turned.ensures (standpoint cfg h) known started _ c.in_ok-clocked.ensures.on
+    (c.in_ok-clocked.ensures.saw started _ s.saw_so)))
+    (ends.begun_facts cfg (sleep_entries clocked.slept ++ h) live clocked.reading f false due _ c.unwrap_or.ensures))
     (calls.knows_plain (Clock why.Turn clocked.reading) known refl refl refl refl refl refl refl) _ refl
 
 pub returns-in_err-clocked-clause-goes : goal.returns-in_err-clocked-clause-goes

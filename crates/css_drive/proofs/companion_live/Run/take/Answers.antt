@@ -2,14 +2,14 @@ use Rattle.std.proofs.Common.{refl, Some, None, ℕ, List, ◌∷◌, [], ap, ta
 use Rattle.css_model.specs.History.{Took, TookNone}
 use Rattle.css_drive.specs.Proper.{TakeDatagram}
 use Rattle.css_drive.proofs.CompanionSteps.{comes, stands_adds, stops_by_fault, failed}
-use Rattle.css_drive.proofs.CompanionCalls as calls
+use Rattle.css_drive.proofs.CompanionSteps as calls
 use Rattle.css_drive.proofs.companion_live.Run.take.Goals as goal
 
 pub returns-in-Ok-None-clause-goes : goal.returns-in-Ok-None-clause-goes
 returns-in-Ok-None-clause-goes g c before started h s k d =
     let call = c.in-Ok-None.ensures in
     comes (stands_adds s TakeDatagram (calls.take_due s d c.in-Some.is) (TookNone ∷ []) ([], None, refl) s.peers
-    (calls.plain_adds (rw c.in-Ok-None.field-0-is at call.told) call.counted.same call.counted.faults) s.saw_so _
+    (calls.plain_adds (rw c.in-Ok-None.field-0-is at call.told) call.counted.same call.counted.faults) s.saw_so
     s.facts)
     (calls.knows_plain TookNone k refl refl refl refl refl refl refl) _ refl
 
@@ -22,7 +22,7 @@ returns-in-Ok-Some-clause-goes g c before started h s k d =
     c.land.ensures.goes before started h q
     (stands_adds s TakeDatagram (calls.take_due s d c.in-Some.is) (Took q bytes ∷ [])
     (c.take_datagram.new.into, Some (q, n), refl) s.peers
-    (calls.plain_adds (rw c.in-Ok-Some.field-0-is at call.told) call.counted.same call.counted.faults) s.saw_so _
+    (calls.plain_adds (rw c.in-Ok-Some.field-0-is at call.told) call.counted.same call.counted.faults) s.saw_so
     s.facts) k
 
 pub returns-in-Err-clause-goes : goal.returns-in-Err-clause-goes

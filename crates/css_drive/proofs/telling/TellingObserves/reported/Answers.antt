@@ -1,4 +1,4 @@
-use Rattle.css_drive.proofs.Reports as reports
+use Rattle.css_drive.proofs.CompanionEnds as reports
 use Rattle.css_drive.proofs.telling.TellingObserves.reported.Goals as goal
 
 pub returns : goal.returns

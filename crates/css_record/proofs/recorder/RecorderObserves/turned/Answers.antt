@@ -1,5 +1,5 @@
-use Rattle.std.proofs.Common.{[], ◌∷◌}
+use Rattle.css_drive.specs.Notes.{turn_notes}
 use Rattle.css_record.proofs.recorder.RecorderObserves.turned.Goals as goal
 
 pub returns : goal.returns
-returns g c from known = c.write.ensures from (_ ∷ []) c.line_of.ensures
+returns g c from known = c.write.ensures (turn_notes from c.args.clocked.now) (c.line_of.ensures.lines from)

@@ -1,35 +1,33 @@
-use Rattle.std.proofs.Common.{◌≡◌, false, eqb, length, refl, rules}
+use Rattle.std.proofs.Common.{◌≡◌, ◌∙◌, false, eqb, length, refl, rules}
 use Rattle.std.proofs.lemmas.Bool.{eq-eqb, ne_eqb}
 use Rattle.css_replay.proofs.Texts.{well-after}
 use Rattle.css_replay.proofs.reader.Replay.open.Goals as goal
 
-pub returns-in_err-heading-clause-reads : goal.returns-in_err-heading-clause-reads
-returns-in_err-heading-clause-reads c = λ extent is number.
-    let fault = c.in_err-heading.ensures extent (rw c.take.ensures.value is) number in search rules
+pub returns-in_err-header-clause-reads : goal.returns-in_err-header-clause-reads
+returns-in_err-header-clause-reads c = λ extent is number.
+    let fault = c.in_err-header.ensures.reads extent is number in search rules
 
 pub new-requires : goal.new-requires
 new-requires c =
     let start = c.requires.well in
-    let heading = c.in_ok-heading.heading in
-    let next = c.in_ok-heading.ensures start.1 (rw c.take.ensures.value start.2) start.0 in
-    let whole : length heading.header.companions ≡ heading.companions = cc in
+    let next = c.in_ok-header.ensures.reads start.1 start.2 start.0 in
+    let whole : length c.in_ok-header.header.companions ≡ c.read_on.new.self.companions = cc in
     let well = rw (next.1.0, eq-eqb _ _ whole) at (well-after start.0 start.1 c.args.text.now start.3) in
     (well.declared.tv, well.declared.companions)
 
-pub returns-then-len-heading-clause-reads : goal.returns-then-len-heading-clause-reads
-returns-then-len-heading-clause-reads c = λ extent is number.
-    let heading = c.in_ok-heading.heading in
-    let next = c.in_ok-heading.ensures extent (rw c.take.ensures.value is) number in
-    let whole : length heading.header.companions ≡ heading.companions = cc in
-    let header = c.in_ok-new.ensures.header in
+pub returns-in_ok-new-clause-reads : goal.returns-in_ok-new-clause-reads
+returns-in_ok-new-clause-reads c = λ extent is number.
+    let next = c.in_ok-header.ensures.reads extent is number in
+    let whole : length c.in_ok-header.header.companions ≡ c.read_on.new.self.companions = cc in
+    let made = c.in_ok-new.ensures.header in
     let stands = c.in_ok-new.ensures.stands in
-    (next.0, record { version = next.1.1; at = rw (next.1.0, eq-eqb _ _ whole) (search rules) })
+    (next.0, rw (next.1.0, eq-eqb _ _ whole) (search rules))
 
-pub returns-clause-reads : goal.returns-clause-reads
-returns-clause-reads c = λ extent is number.
-    let heading = c.in_ok-heading.heading in
-    let next = c.in_ok-heading.ensures extent (rw c.take.ensures.value is) number in
-    let more : eqb (length heading.header.companions) heading.companions ≡ false =
-    ne_eqb _ _ (λ e. c.if-len-heading.false (cc)) in
+pub returns-else-len-self-clause-reads : goal.returns-else-len-self-clause-reads
+returns-else-len-self-clause-reads c = λ extent is number.
+    let next = c.in_ok-header.ensures.reads extent is number in
+    let more : eqb (length c.in_ok-header.header.companions) c.read_on.new.self.companions ≡ false =
+    ne_eqb _ _ (λ e. c.if-len-self.false (cc)) in
     let stage = rw more at next.1.0 in
-    (next.0, record { version = next.1.1; at = rw (c.requires.none, stage) (refl, rw stage at next.1.1) })
+    let none = c.in_ok-header.ensures.kept.0 ∙ c.requires.none in
+    (next.0, rw (none, stage) (refl, rw stage at next.1.1))

@@ -1,1 +1,0 @@
-pub use Rattle.css_drive.proofs.TvSteps.{peer_from}
