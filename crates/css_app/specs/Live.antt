@@ -54,7 +54,12 @@ pub record OutsideUse : Type 0 where
 -- those of an outside with this view and these counts, which was so and is so now
 abbrev pub outside_use : {O : Type 0} → (O → Option History) → (O → Counts) → O → O → OutsideUse
 outside_use told counts old new =
-    record { told_old = told old; told_new = told new; faults_old = (counts old).faults; faults_new = (counts new).faults }
+    record {
+      told_old = told old;
+      told_new = told new;
+      faults_old = (counts old).faults;
+      faults_new = (counts new).faults;
+    }
 
 -- what the spawner tells of its children, how many of them are running, and how often a call has failed
 pub record SpawnerUse : Type 0 where

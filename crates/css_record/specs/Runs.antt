@@ -47,8 +47,8 @@ pub record Writes {T : Type 0} (written : Result T OutFault) (held holds : Optio
 abbrev pub over : {K : Type 0} → Recorder K → Option OutFault
 over recorder = result_err recorder.written
 
--- From the first to the second state of a recorder its sink's name stayed, and after the header of a record it wrote the
--- lines of these notes.
+-- From the first to the second state of a recorder its sink's name stayed, and after the header of a record it wrote
+-- the lines of these notes.
 pub record Saw {K : Type 0} (holds : K → Option (List ℕ)) (faults : K → ℕ) (started now : Recorder K)
     (notes : List Note) : Type 0 where
   pub name : now.sink.ghost_name ≡ started.sink.ghost_name

@@ -278,5 +278,6 @@ pub in_all : (bytes : List ℕ) → KeepsPromise bytes (outcome replayed bytes).
 in_all bytes = promise_of (taken_in_all replayed TakenAll taken_text finishes refl bytes)
 
 -- a front part keeps it too
-pub front_keeps : (bytes front whole : List ℕ) → IsPrefix front whole → KeepsPromise bytes whole → KeepsPromise bytes front
+pub front_keeps : (bytes front whole : List ℕ) → IsPrefix front whole → KeepsPromise bytes whole
+    → KeepsPromise bytes front
 front_keeps bytes front whole prefix keeps = (keeps.0, prefix_trans front whole keeps.0 prefix keeps.1, keeps.2)
