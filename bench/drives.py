@@ -1,18 +1,22 @@
 #!/usr/bin/env python3
 """Refuses each allocation of a live companion's run and of a live television's in turn, one a run, until a run meets no
-refusal; and counts the allocations of a television's quiet turns.
+refusal; counts the allocations of a television's quiet turns; and counts the instructions of a quiet turn of each end.
 
-    bench/drives.py
+    bench/drives.py [PROGRAM]     the program, where an earlier run built it; else it is built
 
 The companion makes two reports, of an answer and a control timestamp; the television serves such a companion, which
 then tells when it can present. Both stand over devices in memory, and write at once what they write or send. Each run
 with a refusal must end with want of memory, and with a front part of what is written without one. Then a television
-with 256 quiet sessions makes 300 turns, and 1,300: it must allocate as often in both. The program is no part of this
+with 256 quiet sessions makes 300 turns, and 1,300: it must allocate as often in both. A quiet turn is one in which
+nothing comes: of this television, and of a companion or a relay whose sessions are open. Its instructions are those by
+which 3,000 turns differ from 1,000, counted by callgrind where valgrind is installed. The program is no part of this
 repository: it is made, proved and built in a folder of its own over copies of the crates, which takes some minutes
 where nothing was proved in this checkout before.
 """
 
 import os
+import re
+import shutil
 import subprocess
 import sys
 import tempfile
@@ -22,11 +26,12 @@ from programs import build
 
 LIBRARIES = [
     "css_num", "css_outside", "css_memory", "css_client", "css_tsmsg", "css_companion", "css_schedule", "css_tv",
-    "css_drive",
+    "css_drive", "css_drive_relay",
 ]
 
-PROGRAM = r"""//! Makes the run of its first word: of a companion, of a television, or of one that has quiet sessions alone, in
-//! as many turns as its second word says.
+PROGRAM = r"""//! Makes the run of its first word: of a companion or a television over devices in memory; or of a
+//! companion, a television with 256 sessions or a relay over devices on which nothing comes, in as many turns as its
+//! second word says.
 #![tactic(auto)]
 
 ghost use Rattle.std.specs.Prelude.{◌≡◌, ◌≤◌, IfOk, IsTrue, All, negsuc, false, true, [], None};
@@ -34,13 +39,15 @@ ghost use Rattle.std.specs.Str.{IsUtf8};
 ghost use Rattle.css_memory.specs.Scripts.{are_readings, are_sessions};
 ghost use Rattle.css_schedule.specs.Ranges.{IsScriptLine};
 ghost use Rattle.css_drive.specs.Configs.{IsWritable};
+ghost use Rattle.css_outside.specs.Limits.{IsLimit};
 
 use css_client::Local;
 use css_companion::CompanionConfig;
-use css_drive::{DriveConfig, Driven, Nobody, drive_companion, drive_tv};
+use css_drive::{DriveConfig, Driven, Nobody, TvDrive, drive_companion, drive_tv};
+use css_drive_relay::{RelayRun, drive_relay};
 use css_num::{Memory, Text};
 use css_memory::{Datagram, MemoryOutside, OutsideScript, SessionHeard};
-use css_outside::{Address, Clocked, Heard, Kind, OutFault, Outside, Sink, Why, Wrote};
+use css_outside::{Address, Clocked, Heard, Kind, Limit, OutFault, Outside, Sink, Why, Wrote};
 use css_schedule::{ScriptLine, read_script};
 use css_tv::TvConfig;
 use std::alloc::Global;
@@ -152,10 +159,13 @@ impl<W: Write> Outside for Telling<W> {
     }
 }
 
-/// An outside that allocates nothing. 256 sessions are opened, one a turn, and nothing else ever comes.
+/// An outside that allocates nothing. So many sessions are opened, one a turn, each dial succeeds, and nothing comes
+/// but one text.
 #[derive(Drop)]
 struct Quiet {
     peers: u32,
+    sessions: u32,
+    text: Option<Text>,
 }
 
 impl Outside for Quiet {
@@ -174,11 +184,15 @@ impl Outside for Quiet {
     }
 
     fn dial(&mut self, _kind: Kind, _to: &Address) -> Result<u32, OutFault> {
-        Err(OutFault::Memory)
+        if self.peers >= 1000 {
+            return Err(OutFault::Memory);
+        }
+        self.peers += 1;
+        Ok(self.peers)
     }
 
     fn accept(&mut self) -> Result<Option<(u32, Kind)>, OutFault> {
-        if self.peers >= 256 {
+        if self.peers >= self.sessions {
             return Ok(None);
         }
         self.peers += 1;
@@ -197,7 +211,10 @@ impl Outside for Quiet {
     }
 
     fn take_text(&mut self, _peer: u32) -> Result<Heard, OutFault> {
-        Ok(Heard::Quiet)
+        match self.text.take() {
+            Some(text) => Ok(Heard::Text(text)),
+            None => Ok(Heard::Quiet),
+        }
     }
 
     fn send_text(&mut self, _peer: u32, _text: &[u8]) -> Result<Wrote, OutFault> {
@@ -280,18 +297,38 @@ fn tv_outside(alloc: Global) -> Result<MemoryOutside, Memory> {
     MemoryOutside::new(alloc, script)
 }
 
-fn companion_config(alloc: Global) -> Result<DriveConfig, Memory>
+fn limit_of(turns: u64) -> Result<Limit, Memory>
+    ensures { IfOk result IsLimit }
+{
+    if turns < 1 || turns > 1_000_000 {
+        return Err(Memory);
+    }
+    Ok(Limit::Turns(turns))
+}
+
+fn wanted(alloc: Global) -> Result<CompanionConfig, Memory>
+    ensures { IfOk result (λ wanted. IsUtf8 wanted.selector × IsUtf8 wanted.stem) }
+{
+    Ok(CompanionConfig {
+        selector: text(alloc, "urn:dvb:css:timeline:pts")?,
+        stem: text(alloc, "")?,
+        local: Local { error: 0, precision: 0 },
+    })
+}
+
+fn cii_address(alloc: Global) -> Result<Address, Memory> {
+    Ok(Address { host: text(alloc, "127.0.0.1")?, port: 6677, path: text(alloc, "/cii")? })
+}
+
+fn companion_config(alloc: Global, limit: Limit) -> Result<DriveConfig, Memory>
+    requires { IsLimit limit }
     ensures { IfOk result IsWritable }
 {
     Ok(DriveConfig {
-        companion: CompanionConfig {
-            selector: text(alloc, "urn:dvb:css:timeline:pts")?,
-            stem: text(alloc, "")?,
-            local: Local { error: 0, precision: 0 },
-        },
-        cii: Address { host: text(alloc, "127.0.0.1")?, port: 6677, path: text(alloc, "/cii")? },
+        companion: wanted(alloc)?,
+        cii: cii_address(alloc)?,
         reports: 2,
-        turns: 4,
+        limit,
         report_every: 10,
         ask_every: 1000,
         present: None,
@@ -299,7 +336,7 @@ fn companion_config(alloc: Global) -> Result<DriveConfig, Memory>
 }
 
 fn run_companion<W: Write + Drop>(alloc: Global, out: W) -> Result<Driven, Memory> {
-    let config = companion_config(alloc)?;
+    let config = companion_config(alloc, limit_of(4)?)?;
     let mut outside = companion_outside(alloc)?;
     let mut sink = Out { inner: out };
     Ok(drive_companion(alloc, config, &mut sink, &mut outside, &mut Nobody))
@@ -328,19 +365,52 @@ fn tv_config(host: Text) -> TvConfig
 }
 
 fn run_tv<W: Write + Drop>(alloc: Global, out: W) -> Result<Driven, Memory> {
-    let config = tv_config(text(alloc, "127.0.0.1")?);
+    let tv = tv_config(text(alloc, "127.0.0.1")?);
     let mut outside = Telling { outside: tv_outside(alloc)?, out };
     let script = script(alloc)?;
-    Ok(drive_tv(alloc, config, 4, &script, &mut outside))
+    let run = TvDrive { tv, limit: limit_of(4)?, relative: false };
+    Ok(drive_tv(alloc, run, &script, &mut outside))
 }
 
-fn run_quiet(alloc: Global, turns: u64) -> Result<Driven, Memory> {
-    let config = tv_config(text(alloc, "127.0.0.1")?);
-    let mut outside = Quiet { peers: 0 };
-    if turns < 1 || turns > 1_000_000 {
-        return Err(Memory);
+fn quiet_tv(alloc: Global, limit: Limit) -> Result<Driven, Memory>
+    requires { IsLimit limit }
+{
+    let tv = tv_config(text(alloc, "127.0.0.1")?);
+    let mut outside = Quiet { peers: 0, sessions: 256, text: None };
+    Ok(drive_tv(alloc, TvDrive { tv, limit, relative: false }, &[], &mut outside))
+}
+
+fn quiet_companion(alloc: Global, limit: Limit) -> Result<Driven, Memory>
+    requires { IsLimit limit }
+{
+    let config = companion_config(alloc, limit)?;
+    let mut outside = Quiet { peers: 0, sessions: 0, text: Some(text(alloc, CII)?) };
+    let mut sink = Out { inner: Vec::new(alloc) };
+    Ok(drive_companion(alloc, config, &mut sink, &mut outside, &mut Nobody))
+}
+
+fn quiet_relay(alloc: Global, limit: Limit) -> Result<Driven, Memory>
+    requires { IsLimit limit }
+{
+    let config = RelayRun {
+        companion: wanted(alloc)?,
+        cii: cii_address(alloc)?,
+        host: text(alloc, "127.0.0.1")?,
+        port: 6687,
+        limit,
+        ask_every: 1000,
+    };
+    let mut outside = Quiet { peers: 0, sessions: 0, text: Some(text(alloc, CII)?) };
+    Ok(drive_relay(alloc, config, &mut outside))
+}
+
+fn run_quiet(alloc: Global, kind: &str, turns: u64) -> Result<Driven, Memory> {
+    let limit = limit_of(turns)?;
+    match kind {
+        "quiet_companion" => quiet_companion(alloc, limit),
+        "quiet_relay" => quiet_relay(alloc, limit),
+        _ => quiet_tv(alloc, limit),
     }
-    Ok(drive_tv(alloc, config, turns, &[], &mut outside))
 }
 
 fn main(rt: HostRuntime) -> ExitCode {
@@ -359,10 +429,12 @@ fn main(rt: HostRuntime) -> ExitCode {
     let driven = match kind.as_str() {
         "companion" => run_companion(rt.alloc(), io::writer(&rt)),
         "tv" => run_tv(rt.alloc(), io::writer(&rt)),
-        _ => run_quiet(rt.alloc(), turns),
+        kind => run_quiet(rt.alloc(), kind, turns),
     };
     match driven {
         Ok(Driven::Done) => ExitCode::from(0),
+        // A quiet companion makes no report.
+        Ok(Driven::Spent { turns: _ }) => ExitCode::from(0),
         Ok(Driven::Memory) => ExitCode::from(14),
         Err(Memory) => ExitCode::from(14),
         Ok(_) => ExitCode::from(3),
@@ -431,29 +503,48 @@ def refuse_each(program, library, kind):
 def allocations(program, library, turns):
     """How often a television with quiet sessions allocates in so many turns: the greatest number that is refused."""
     least, most = 0, 1
-    while run(program, library, ["quiet", str(turns)], most)[2]:
+    while run(program, library, ["quiet_tv", str(turns)], most)[2]:
         least, most = most, most * 2
     while most - least > 1:
         middle = (least + most) // 2
-        if run(program, library, ["quiet", str(turns)], middle)[2]:
+        if run(program, library, ["quiet_tv", str(turns)], middle)[2]:
             least = middle
         else:
             most = middle
     return least
 
 
+def instructions(program, kind, turns):
+    """The instructions of a run of so many quiet turns."""
+    words = ["valgrind", "--tool=callgrind", "--callgrind-out-file=/dev/null", program, kind, str(turns)]
+    ran = subprocess.run(words, stdin=subprocess.DEVNULL, capture_output=True, text=True, check=True)
+    return int(re.search(r"refs: +([0-9,]+)", ran.stderr).group(1).replace(",", ""))
+
+
+def measure(program):
+    library_folder = tempfile.mkdtemp()
+    library = refusals.build(library_folder)
+    for kind in ["companion", "tv"]:
+        count = refuse_each(program, library, kind)
+        print(f"{kind}: {count} allocations refused, one a run: each ends with memory and a front part of what is "
+              "written")
+    few, many = (allocations(program, library, turns) for turns in (300, 1300))
+    if few != many:
+        sys.exit(f"300 turns allocate {few} times, and 1,300 turns {many} times")
+    print(f"quiet: {few} allocations in 300 turns as in 1,300, so a turn with 256 quiet sessions makes none")
+    shutil.rmtree(library_folder)
+    if shutil.which("valgrind"):
+        for kind in ["quiet_companion", "quiet_relay", "quiet_tv"]:
+            less, more = (instructions(program, kind, turns) for turns in (1000, 3000))
+            print(f"{kind}: {(more - less) // 2000} instructions a turn")
+
+
 def main():
+    if sys.argv[1:]:
+        measure(sys.argv[1])
+        return
     with tempfile.TemporaryDirectory() as folder:
-        program = build(folder, "drives", LIBRARIES, PROGRAM, PROOFS)
-        library = refusals.build(folder)
-        for kind in ["companion", "tv"]:
-            count = refuse_each(program, library, kind)
-            print(f"{kind}: {count} allocations refused, one a run: each ends with memory and a front part of what is "
-                  "written")
-        few, many = (allocations(program, library, turns) for turns in (300, 1300))
-        if few != many:
-            sys.exit(f"300 turns allocate {few} times, and 1,300 turns {many} times")
-        print(f"quiet: {few} allocations in 300 turns as in 1,300, so a turn with 256 quiet sessions makes none")
+        measure(build(folder, "drives", LIBRARIES, PROGRAM, PROOFS))
 
 
 if __name__ == "__main__":
