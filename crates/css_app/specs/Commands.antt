@@ -35,8 +35,7 @@ use Rattle.css_words.specs.declared.fault.WordsFault.TheVariants as words
 use Rattle.css_replay.specs.declared.status.Status.{Status}
 use Rattle.css_replay.specs.declared.status.Status.TheVariants as status
 use Rattle.css_replay.specs.Devices.{SourceUse, SinkUse}
-use Rattle.css_replay.specs.Ended.{ByReplay, OverLines}
-use Rattle.css_replay.specs.Ended.{HasNotFailed, IsDoneUnlessMemory}
+use Rattle.css_replay.specs.Ended.{ByReplay, HasNotFailed, IsDoneUnlessMemory, OverLines}
 use Rattle.css_app.specs.declared.live_pair.Child.{Child}
 use Rattle.css_app.specs.Ended.{Writes, agree_refused, audit_refused, line_refused, script_in}
 use Rattle.css_app.specs.Live.{AreLeft, ArePairedAsDue, AreUntouched, EndsAtLastUnlessMemory, FollowersUse, HasNoScript}

@@ -13,7 +13,7 @@ ghost use Rattle.css_words.specs.Watch.{watch_of};
 ghost use Rattle.css_words.specs.Written.{AreWritable};
 ghost use Rattle.css_app.specs.Commands.{IsAskedRelay, IsAskedRun, IsAskedWatch, asked_child, asked_drive};
 ghost use Rattle.css_app.specs.Ended.{CanBeDrawn};
-ghost use Rattle.css_app.specs.Live as pairs;
+ghost use Rattle.css_app.specs.Live as live;
 
 use crate::live_pair::{Child, address_at};
 use css_client::Local;
@@ -78,7 +78,7 @@ pub(crate) fn tv_run_of(words: TvWords) -> TvDrive
 pub(crate) fn pair_run_of(alloc: Global, words: PairWords) -> Result<(DriveConfig, Child), Memory>
     requires { AreWritable words.companion }
     ensures run { IfOk result
-        (λ pair. IsAskedRun (options_of words.companion) (pairs.address_at words.tv.port) pair.0) }
+        (λ pair. IsAskedRun (options_of words.companion) (live.address_at words.tv.port) pair.0) }
     ensures writable { IfOk result (λ pair. drive.IsWritable pair.0) }
     ensures child { IfOk result (λ pair. pair.1 ≡ asked_child (tv_of words.tv)) }
 {

@@ -6,7 +6,7 @@ ghost use Rattle.css_replay.specs.Devices.{sink_use, source_use};
 ghost use Rattle.css_replay.specs.Ended.{HasNotFailed, IsNoUsage};
 ghost use Rattle.css_app.specs.Ended.{script_in};
 ghost use Rattle.css_app.specs.Live.{Pairs, PairsAsDue, TellsFaults, followers_use, outside_use, spawner_use};
-ghost use Rattle.css_app.specs.Live as pairs;
+ghost use Rattle.css_app.specs.Live as live;
 
 use crate::inputs::take_script_text;
 use crate::live::status_of;
@@ -34,7 +34,7 @@ pub struct Child {
 
 /// Where the session of CSS-CII of a child with this port is dialled.
 pub fn address_at(alloc: Global, port: u16) -> Result<Address, Memory>
-    ensures { IfOk result (λ address. address ≡ pairs.address_at port) }
+    ensures { IfOk result (λ address. address ≡ live.address_at port) }
 {
     Ok(Address {
         host: Text::of(alloc, b"127.0.0.1")?,
@@ -45,7 +45,7 @@ pub fn address_at(alloc: Global, port: u16) -> Result<Address, Memory>
 
 // Adds an option with a number.
 fn add_option(alloc: Global, words: &mut Vec<Text>, name: &[u8], value: i128) -> Result<(), Memory>
-    ensures { OnOk result (words.new.items ≡ words.old.items ++ pairs.option_word name.now value ∷ []) }
+    ensures { OnOk result (words.new.items ≡ words.old.items ++ live.option_word name.now value ∷ []) }
 {
     let mut word = Text::of(alloc, name)?;
     word.push_number(value)?;
@@ -55,7 +55,7 @@ fn add_option(alloc: Global, words: &mut Vec<Text>, name: &[u8], value: i128) ->
 
 // Adds the word of a flag, where it is set.
 fn add_flag(alloc: Global, words: &mut Vec<Text>, name: &[u8], set: bool) -> Result<(), Memory>
-    ensures { OnOk result (words.new.items ≡ words.old.items ++ pairs.flag_words name.now set) }
+    ensures { OnOk result (words.new.items ≡ words.old.items ++ live.flag_words name.now set) }
 {
     if set {
         words.push(Text::of(alloc, name)?)?;
@@ -65,7 +65,7 @@ fn add_flag(alloc: Global, words: &mut Vec<Text>, name: &[u8], set: bool) -> Res
 
 // The option that says how long a run goes on, and its number.
 fn limit_option(limit: Limit) -> (&'static [u8], u64)
-    ensures { pairs.option_word result.0.now (pos result.1) ≡ pairs.limit_word limit }
+    ensures { live.option_word result.0.now (pos result.1) ≡ live.limit_word limit }
 {
     match limit {
         Limit::Turns(turns) => (b"--turns=", turns),
@@ -75,7 +75,7 @@ fn limit_option(limit: Limit) -> (&'static [u8], u64)
 
 // The words with which a child is started whose run has this limit.
 fn child_words(alloc: Global, child: &Child, limit: Limit) -> Result<Vec<Text>, Memory>
-    ensures { IfOk result (λ words. words.items ≡ pairs.child_words child.now limit) }
+    ensures { IfOk result (λ words. words.items ≡ live.child_words child.now limit) }
 {
     let mut words = Vec::new(alloc);
     words.push(Text::of(alloc, b"tv")?)?;
@@ -96,7 +96,7 @@ fn child_words(alloc: Global, child: &Child, limit: Limit) -> Result<Vec<Text>, 
 
 // The status where the companion's run is done, and the child was waited for.
 fn child_status(finished: Result<i32, OutFault>) -> Status
-    ensures value { result ≡ pairs.child_status finished }
+    ensures value { result ≡ live.child_status finished }
     ensures no_usage { IsNoUsage result }
 {
     match finished {
@@ -111,7 +111,7 @@ fn child_status(finished: Result<i32, OutFault>) -> Status
 
 // The companion's status, or the child's where the companion's run is done.
 fn with_child(companion: Status, finished: Result<i32, OutFault>) -> Status
-    ensures value { result ≡ pairs.with_child companion finished }
+    ensures value { result ≡ live.with_child companion finished }
     ensures no_usage { IsNoUsage companion → IsNoUsage result }
 {
     match &companion {
@@ -139,7 +139,7 @@ pub fn pair<S: Source, K: Sink, O: Outside, P: Spawner, F: Listens>(
     followers: &mut F,
 ) -> Status
     requires writable { IsWritable config }
-    requires dials { config.cii ≡ pairs.address_at child.now.port }
+    requires dials { config.cii ≡ live.address_at child.now.port }
     // What became of the script, of the child, and of the run: each report is what the calls of the outside give, and
     // each interval of it is true. The followers speak by the plans that the empty sheet gives them.
     ensures ran { Pairs config child.now (source_use S.left S.faults source.old source.new)

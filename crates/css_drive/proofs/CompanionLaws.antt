@@ -17,7 +17,7 @@ use Rattle.css_outside.specs.declared.calls.Wrote.TheVariants as outcome
 use Rattle.css_companion.specs.declared.fault.CompanionFault.{CompanionFault}
 use Rattle.css_companion.specs.declared.fault.CompanionFault.TheVariants as fault
 use Rattle.css_companion.specs.declared.report.Report.{Report}
-use Rattle.css_follow.specs.Following.{Seen, told, told_unless, after, ends_by}
+use Rattle.css_follow.specs.Following.{Seen, told, told_unless, ends_by}
 use Rattle.css_drive.specs.CompanionDue as dues
 use Rattle.css_drive.specs.CompanionDue.{Point, due, due_at, dial_to, dial_first, take_text, hang_up, sending, send_to}
 use Rattle.css_drive.specs.CompanionDue.{is_short, refusal, unless_refused, point_of, end_by, IsProperRun}

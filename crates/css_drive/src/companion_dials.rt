@@ -21,9 +21,10 @@ use css_companion::{Companion, CompanionEvent};
 use css_num::Text;
 use css_outside::{Kind, Outside, Wrote};
 
-/// The text that the companion owes the television after an event.
+/// The text that the companion owes the television after an event, which always owes one.
 fn owed(companion: &mut Companion, event: CompanionEvent) -> Result<Text, Driven>
-    requires { steps.IsEvent event }
+    requires event { steps.IsEvent event }
+    requires some { (told : List ℕ) × (steps.owed companion.old event ≡ Ok (Some told)) }
     ensures text { IfOk result (λ text. (told : List ℕ) → steps.owed companion.old event ≡ Ok (Some told)
         → text ≡ told) }
     ensures err { IfErr result (λ ended. ended ≡ Driven.Memory) }
@@ -34,8 +35,8 @@ fn owed(companion: &mut Companion, event: CompanionEvent) -> Result<Text, Driven
 {
     match companion.step(event) {
         Ok(Some(text)) => Ok(text),
-        // It always owes one.
-        _ => Err(Driven::Memory),
+        Ok(None) => unreachable!(),
+        Err(_) => Err(Driven::Memory),
     }
 }
 

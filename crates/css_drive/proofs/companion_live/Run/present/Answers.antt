@@ -16,6 +16,9 @@ after : (config : DriveConfig) (p : ℕ) (h : History) (sent : Outcome)
 after config p h outcome.Sent = refl
 after config p h outcome.Gone = refl
 
+pub owed-requires-clause-some : goal.owed-requires-clause-some
+owed-requires-clause-some g c = (_, refl)
+
 pub returns-clause-goes : goal.returns-clause-goes
 returns-clause-goes g c at before started h s k when =
     let cfg = c.args.config.now in
