@@ -4,7 +4,7 @@ use Rattle.std.proofs.Common.{[], ◌∷◌, length, Option, Some, None, add-one
 use Rattle.std.proofs.Common.{append_assoc, append-nil, map, flat_map}
 use Rattle.std.proofs.lemmas.Bool.{ltb-true, lt-ltb, and_parts, or_right, not-false}
 use Rattle.std.proofs.lemmas.Grind.{common_steps}
-use Rattle.std.specs.Prelude.{is_some, nat_lt, not, ◌||◌, unwrap_or, ◌⊎◌, OnOk, ◌<◌}
+use Rattle.std.specs.Prelude.{is_some, nat_lt, not, ◌||◌, ◌⊎◌, OnOk, ◌<◌}
 use Rattle.css_model.specs.declared.Kind.TheVariants as kind
 use Rattle.css_model.specs.declared.Why.TheVariants as why
 use Rattle.css_model.specs.Explains.{IsLawful}
@@ -19,7 +19,7 @@ use Rattle.css_drive.specs.CompanionDue.{due, hang_up, from_hang_ups, from_turn,
 use Rattle.css_drive.specs.CompanionReports.{due_reports, report_at, is_due, IsPromisedAt, KeepsPromises, written}
 use Rattle.css_drive.specs.CompanionStanding.{Shown, facts_of, Stands, Hangs, Stops, Adds, ending_of, is_another}
 use Rattle.css_drive.specs.CompanionStanding.{is_calling, open_of, without, Knows, Made, IsEarly, IsSo, IsEndOf}
-use Rattle.css_drive.specs.CompanionStanding.{final_end, Names}
+use Rattle.css_drive.specs.CompanionStanding.{final_end, Names, begun_at}
 use Rattle.css_drive.specs.CompanionTurns.{turn_at, first_turn, turns, first_of, counted, is_late, goes_on, dialled}
 use Rattle.css_drive.specs.CompanionTurns.{any_dialled}
 use Rattle.css_drive.specs.Ends.{MayEnd, CountsNetFault, CountsDialFaults, CountsWriteFault}
@@ -54,10 +54,6 @@ use Rattle.css_follow.specs.Listening.{hearing, words_of}
 module _ (config : DriveConfig) (history : History) (live : Live) (reading : ℕ)
     (f : facts_of config history ≡ live) (due : Bool)
     (e : is_due config.report_every reading live.first live.reported ≡ due) where
-  abbrev begun : Live → ℕ → ℕ → Live
-  begun x first reported =
-      record x { first = Some first; turn = Some reading; made = x.made + 1; reported = reported }
-
   abbrev told : Bool → ℕ → Report → List Note → List Note
   told now number report notes =
       let turn = Happened (standpoint config history) (Turn reading) ∷ notes in
@@ -66,19 +62,21 @@ module _ (config : DriveConfig) (history : History) (live : Live) (reading : ℕ
   now_due : is_due config.report_every reading (first_turn history) (length (due_reports config history)) ≡ due
   now_due = ap {A = Live} (λ x. is_due config.report_every reading x.first x.reported) f ∙ e
 
-  pub begun_facts : (first : ℕ) → first ≡ unwrap_or live.first reading
+  pub begun_facts : {begun : Live} → begun ≡ begun_at reading live
       → facts_of config (Clock why.Turn reading ∷ history)
-      ≡ begun live first (cond due (live.reported + 1) live.reported)
-  begun_facts first same =
-      rw now_due (ap (begun (facts_of config history) (unwrap_or (first_turn history) reading)) (count due)
-      ∙ ap {A = Live} (λ x. begun x (unwrap_or x.first reading) (cond due (x.reported + 1) x.reported)) f
-      ∙ ap (λ u. begun live u (cond due (live.reported + 1) live.reported)) (sym same))
+      ≡ cond due (record begun { reported = begun.reported + 1 }) begun
+  begun_facts {begun} same =
+      let counted : Live → Live = λ x. cond due (record x { reported = x.reported + 1 }) x in
+      rw now_due (by due ∙ ap (λ x. counted (begun_at reading x)) f ∙ ap counted (sym same))
     where
-      count : (b : Bool) → length (cond b (report_at config history reading ∷ due_reports config history)
-          (due_reports config history))
-          ≡ cond b (length (due_reports config history) + 1) (length (due_reports config history))
-      count true = sym (add-one (length (due_reports config history)))
-      count false = refl
+      with : ℕ → Live
+      with n = record (begun_at reading (facts_of config history)) { reported = n }
+
+      by : (b : Bool) → with (length (cond b (report_at config history reading ∷ due_reports config history)
+          (due_reports config history)))
+          ≡ cond b (with (length (due_reports config history) + 1)) (with (length (due_reports config history)))
+      by true = ap with (sym (add-one (length (due_reports config history))))
+      by false = refl
 
   pub begun_notes : (notes : List Note) → noted config history ≡ notes → (report : Report)
       → report ≡ report_at config history reading

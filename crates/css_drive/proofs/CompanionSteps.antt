@@ -25,6 +25,7 @@ use Rattle.css_drive.specs.CompanionTurns.{is_kind, asked_turn, is_asking}
 use Rattle.css_drive.specs.Ends.{MayEnd, IsNetFault, CountsNetFault}
 use Rattle.css_drive.specs.Notes.{Note, noted, dial_notes, standpoint, session_at, slept_notes, landing_notes}
 use Rattle.css_drive.specs.Notes.{heard_notes, wrote_notes}
+use Rattle.css_drive.specs.Stages.{At, DialsTold}
 use Rattle.css_drive.specs.Proper.{Due, Dial, MayAdd, More, Now, TakeDatagram, TakeText, SendText, Ends}
 use Rattle.css_drive.specs.declared.companion_live.Live.{Live}
 use Rattle.css_drive.specs.declared.config.DriveConfig.{DriveConfig}
@@ -598,3 +599,21 @@ bad_stops {config} {before} {now} {saw} s lawful {over} property told k rest _ g
     let P : Driven → Type 0 = λ x. Stops config before now saw over x in
     subst P (sym g.1) (stops_here s lawful over (driven.BadUrl property) tt (d
     ∙ ap (λ x. dial_to None k property x rest) g.2))
+
+-- and it is a stage that dials what a property tells
+pub told_err : {T : Type 0} (over : Option OutFault) (k : Kind) (property : CiiName) (old new : At) (ended : Driven)
+    (found told : Option (Result Address AddressFault)) → found ≡ told → new.shown ≡ old.shown
+    → (result : Result T Driven) → IsErrAnd result (λ x. x ≡ ended) → GivesPlace property found (Err ended)
+    → DialsTold over k property None told old new result
+told_err over k property old new ended found told e same result is g =
+    subst (λ (x : Option (Result Address AddressFault)). DialsTold over k property None x old new result) e (by found g)
+  where
+    memory : (to : Address) (ended : Driven) → GivesPlace property (Some (Ok to)) (Err ended) → ended ≡ driven.Memory
+    memory to driven.Memory g = refl
+    memory to _ g = let bad = g.2 in absurd (cc)
+
+    by : (found : Option (Result Address AddressFault)) → GivesPlace property found (Err ended)
+        → DialsTold over k property None found old new result
+    by (Some (Ok to)) g = at_err _ _ _ result is (inr (same, memory to ended g))
+    by None g = at_err _ _ _ result is (same, g)
+    by (Some (Err bad)) g = at_err _ _ _ result is (same, g)

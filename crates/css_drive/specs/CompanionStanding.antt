@@ -1,7 +1,7 @@
 -- How the variables of a companion's run stand for its history.
 use Rattle.std.specs.Prelude.{◌≡◌, ◌≤◌, ◌<◌, ℕ, List, Bool, true, false, [], ◌∷◌, ◌++◌, Option, Some, None, Result, Ok}
 use Rattle.std.specs.Prelude.{Err, MatchResult, OnOk, IfErr, IfSome, is_some, nat_lt, ◌&&◌, ◌||◌, if◌then◌else◌}
-use Rattle.std.specs.Prelude.{length, not, ⊤}
+use Rattle.std.specs.Prelude.{length, not, ⊤, ◌+◌, unwrap_or}
 use Rattle.css_model.specs.declared.TheConstants.{LIMIT}
 use Rattle.css_model.specs.declared.Why.{Why}
 use Rattle.css_model.specs.declared.Kind.{Kind}
@@ -59,6 +59,26 @@ facts_of config history = record {
   cii_open = opened kind.Cii history;
   ts_open = opened kind.Ts history;
 }
+
+-- nothing was called yet
+abbrev pub no_calls : Live
+no_calls = record {
+  first = None;
+  turn = None;
+  asked = None;
+  made = 0;
+  reported = 0;
+  cii = None;
+  wc = None;
+  ts = None;
+  cii_open = None;
+  ts_open = None;
+}
+
+-- a turn begins, at this reading
+abbrev pub begun_at : ℕ → Live → Live
+begun_at reading live =
+    record live { first = Some (unwrap_or live.first reading); turn = Some reading; made = live.made + 1 }
 
 -- the peer of the last dial of a kind is known as such, and has a number up to this one
 abbrev pub KnowsPeers : ℕ → History → Type 0

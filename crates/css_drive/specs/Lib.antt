@@ -1,5 +1,6 @@
 pub mod Configs
 pub mod Proper
+pub mod Stages
 pub mod Ends
 pub mod CompanionTurns
 pub mod CompanionReports

@@ -1,13 +1,17 @@
 //! The dials of a turn of a companion, and what the television is told first.
 ghost use Rattle.std.specs.Prelude.{◌≡◌, ◌∷◌, ℕ, List, OnOk, IfOk, IfErr, IfSome, None, Some, Ok};
 ghost use Rattle.css_model.specs.History.{Entry, History};
+ghost use Rattle.css_model.specs.declared.Kind.TheVariants as kinds;
 ghost use Rattle.css_outside.specs.Faults.{HasRisen};
 ghost use Rattle.css_tsmsg.specs.Setups.{setup_text};
+ghost use Rattle.css_cii.specs.declared.name.CiiName.TheVariants.{WcUrl};
 ghost use Rattle.css_companion.specs.Standing.{wanted_by};
 ghost use Rattle.css_companion.specs.Steps as steps;
+ghost use Rattle.css_drive.specs.CompanionDue as dues;
 ghost use Rattle.css_drive.specs.CompanionDue.{from_cii, from_wc, from_ts, from_ask, Connected, SetUp};
 ghost use Rattle.css_drive.specs.Configs.{IsWindow};
 ghost use Rattle.css_drive.specs.CompanionStanding.{IsAt, IsDue, Leads, LeadsFrom, Knows, Stays};
+ghost use Rattle.css_drive.specs.Stages.{DialsOnce, DialsTold, at};
 ghost use Rattle.css_drive.specs.declared.config.DriveConfig.{DriveConfig as Config};
 
 use crate::calls::place;
@@ -19,7 +23,7 @@ use crate::observes::Observes;
 use css_cii::CiiName;
 use css_companion::{Companion, CompanionEvent};
 use css_num::Text;
-use css_outside::{Kind, Outside, Wrote};
+use css_outside::{Address, Kind, Outside, Wrote};
 
 /// The text that the companion owes the television after an event, which always owes one.
 fn owed(companion: &mut Companion, event: CompanionEvent) -> Result<Text, Driven>
@@ -42,8 +46,11 @@ fn owed(companion: &mut Companion, event: CompanionEvent) -> Result<Text, Driven
 
 impl<O: Outside, W: Observes> Run<'_, O, W> {
     /// Dials the session of CSS-CII, while no dial of it succeeded.
-    pub fn dial_cii(&mut self, config: &DriveConfig) -> Result<(), Driven>
-        ensures goes { Leads O.told O.counts W.saw W.over config.now self.old self.new from_cii from_wc result }
+    pub fn dial_cii(&mut self, to: &Address) -> Result<(), Driven>
+        ensures called { DialsOnce (W.over self.new.observer.now) kinds.Cii self.old.live.cii to.now
+            (at O.told O.counts self.old) (at O.told O.counts self.new) result }
+        ensures goes { (config : Config) → config.cii ≡ to.now
+            → Leads O.told O.counts W.saw W.over config self.old self.new from_cii from_wc result }
         ensures stays { Stays O.counts self.old self.new result }
         ensures tried { OnOk result (self.new.live.cii ≡ None
             → HasRisen (O.counts self.old.outside.now).dial_faults (O.counts self.new.outside.now).dial_faults) }
@@ -51,7 +58,7 @@ impl<O: Outside, W: Observes> Run<'_, O, W> {
         let None = self.live.cii else {
             return Ok(());
         };
-        let Some(peer) = try_dial(self.outside, self.observer, Kind::Cii, &config.cii)? else {
+        let Some(peer) = try_dial(self.outside, self.observer, Kind::Cii, to)? else {
             return Ok(());
         };
         self.live.cii = Some(peer);
@@ -60,8 +67,12 @@ impl<O: Outside, W: Observes> Run<'_, O, W> {
     }
 
     /// Dials the wall clock, while no dial of it succeeded and its address is told.
-    pub fn dial_wc(&mut self, config: &DriveConfig) -> Result<(), Driven>
-        ensures goes { Leads O.told O.counts W.saw W.over config.now self.old self.new from_wc from_ts result }
+    pub fn dial_wc(&mut self) -> Result<(), Driven>
+        ensures called { DialsTold (W.over self.new.observer.now) kinds.Wc WcUrl self.old.live.wc
+            (dues.place kinds.Wc self.old.companion.now.state.wc_url)
+            (at O.told O.counts self.old) (at O.told O.counts self.new) result }
+        ensures goes { (config : Config)
+            → Leads O.told O.counts W.saw W.over config self.old self.new from_wc from_ts result }
         ensures stays { Stays O.counts self.old self.new result }
     {
         let None = self.live.wc else {

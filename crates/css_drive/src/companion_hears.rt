@@ -1,20 +1,21 @@
 //! What a turn of a companion asks and hears, and the end of its sessions.
-ghost use Rattle.std.specs.Prelude.{◌≡◌, ◌≤◌, ◌∷◌, ◌⊎◌, ℕ, None, Some, OnOk, IfErr, MatchResult};
+ghost use Rattle.std.specs.Prelude.{◌≡◌, ◌≤◌, ◌∷◌, ◌⊎◌, ℕ, None, Some, OnOk, IfErr, MatchResult, true};
 ghost use Rattle.css_model.specs.History.{History, Closed, Took};
 ghost use Rattle.css_model.specs.declared.Why.TheVariants as whys;
 ghost use Rattle.css_companion.specs.Meanings.{kind_of};
 ghost use Rattle.css_drive.specs.CompanionDue.{due, from_ask, from_take, from_cii_text, hang_up};
 ghost use Rattle.css_drive.specs.CompanionStanding.{Shown, shown_of, Stands, Knows, Leads, Goes, Stops, Stays, Names};
-ghost use Rattle.css_drive.specs.CompanionStanding.{IsDue, IsEarly, Hangs, TakesIn, a_reading};
+ghost use Rattle.css_drive.specs.CompanionStanding.{IsDue, IsCut, IsEarly, Hangs, TakesIn, a_reading};
 ghost use Rattle.css_drive.specs.CompanionStanding.{kind_for, open_of, from_text, after_text};
+ghost use Rattle.css_drive.specs.CompanionTurns.{is_asking};
 ghost use Rattle.css_drive.specs.Proper.{Due};
+ghost use Rattle.css_drive.specs.Stages.{AsksOnce, Lands, FailsLanding, HearsOnce, at};
 ghost use Rattle.css_drive.specs.declared.config.DriveConfig.{DriveConfig as Config};
 
 use crate::calls;
 use crate::calls::{end_of, refused, send_datagram, take_text};
 use crate::companion_calls::{check, note_sleep, tell};
 use crate::companion_live::{Live, Run};
-use crate::config::DriveConfig;
 use crate::driven::Driven;
 use crate::observes::Observes;
 use crate::session::Session;
@@ -25,10 +26,11 @@ use css_outside::{Heard, Outside, Why};
 
 /// Takes a text of a session in.
 fn take_in(companion: &mut Companion, session: Session, text: Text) -> Result<(), Driven>
-    ensures told { (config : DriveConfig) → (peer : ℕ) → (history : History)
+    ensures told { (config : Config) → (peer : ℕ) → (history : History)
         → kind_of peer history ≡ Some (kind_for session) → Knows config companion.old history
         → TakesIn config session peer text history companion.new result }
     ensures early { IfErr result IsEarly }
+    ensures cut { IfErr result IsCut }
     ensures same { companion.new.client ≡ companion.old.client }
 {
     match session {
@@ -45,7 +47,7 @@ fn take_in(companion: &mut Companion, session: Session, text: Text) -> Result<()
 
 /// Tells the companion that a session is over.
 fn let_go(companion: &mut Companion, session: Session) -> Result<(), Driven>
-    ensures told { (config : DriveConfig) → (peer : ℕ) → (history : History)
+    ensures told { (config : Config) → (peer : ℕ) → (history : History)
         → kind_of peer history ≡ Some (kind_for session) → Knows config companion.old history
         → OnOk result (Knows config companion.new (Closed peer ∷ history)) }
     ensures err { IfErr result (λ ended. ended ≡ Driven.Memory) }
@@ -71,10 +73,12 @@ impl Live {
 
 impl<O: Outside, W: Observes> Run<'_, O, W> {
     /// Reads the clock for a request, and sends the request of that reading.
-    fn request(&mut self, config: &DriveConfig, peer: u32) -> Result<(), Driven>
+    fn request(&mut self, peer: u32) -> Result<(), Driven>
         requires { self.old.companion.now.client.floor ≤ (O.counts self.old.outside.now).last }
-        ensures goes { self.old.live.wc ≡ Some peer → Leads O.told O.counts W.saw W.over config.now self.old self.new
-            (a_reading whys.Ask) from_take result }
+        ensures called { AsksOnce (W.over self.new.observer.now) (Some peer) true (at O.told O.counts self.old)
+            (at O.told O.counts self.new) result }
+        ensures goes { self.old.live.wc ≡ Some peer → (config : Config) → Leads O.told O.counts W.saw W.over config
+            self.old self.new (a_reading whys.Ask) from_take result }
         ensures stays { Stays O.counts self.old self.new result }
     {
         let clocked = self.read(Why::Ask)?;
@@ -88,30 +92,37 @@ impl<O: Outside, W: Observes> Run<'_, O, W> {
     }
 
     /// Asks the wall clock, where it was dialled and it is time.
-    pub fn ask(&mut self, config: &DriveConfig) -> Result<(), Driven>
+    pub fn ask(&mut self, every: u64) -> Result<(), Driven>
         requires { self.old.companion.now.client.floor ≤ (O.counts self.old.outside.now).last }
-        ensures goes { Leads O.told O.counts W.saw W.over config.now self.old self.new from_ask from_take result }
+        ensures called { AsksOnce (W.over self.new.observer.now) self.old.live.wc
+            (is_asking every self.old.live.turn self.old.live.asked) (at O.told O.counts self.old)
+            (at O.told O.counts self.new) result }
+        ensures goes { (config : Config) → config.ask_every ≡ every
+            → Leads O.told O.counts W.saw W.over config self.old self.new from_ask from_take result }
         ensures stays { Stays O.counts self.old self.new result }
     {
         let Some(peer) = self.live.wc else {
             return Ok(());
         };
-        if !is_time(config.ask_every, self.live.turn, self.live.asked) {
+        if !is_time(every, self.live.turn, self.live.asked) {
             return Ok(());
         }
-        self.request(config, peer)
+        self.request(peer)
     }
 
     /// Reads the clock for a datagram that was just taken, and takes it in.
-    fn land(&mut self, config: &DriveConfig, bytes: &[u8]) -> Result<(), Driven>
+    pub fn land(&mut self, bytes: &[u8]) -> Result<(), Driven>
         requires { self.old.companion.now.client.floor ≤ (O.counts self.old.outside.now).last }
-        ensures goes { (before : Shown) → (started : W) → (history : History) → (peer : ℕ)
-            → Stands config.now before (shown_of O.told O.counts self.old) (W.saw started self.old.observer.now)
+        ensures called { MatchResult result
+            (λ _. Lands bytes.now (at O.told O.counts self.old) (at O.told O.counts self.new))
+            (FailsLanding (W.over self.new.observer.now) (at O.told O.counts self.old) (at O.told O.counts self.new)) }
+        ensures goes { (config : Config) → (before : Shown) → (started : W) → (history : History) → (peer : ℕ)
+            → Stands config before (shown_of O.told O.counts self.old) (W.saw started self.old.observer.now)
             self.old.live (Took peer bytes.now ∷ history)
-            → Knows config.now self.old.companion.now history
-            → Goes config.now before (shown_of O.told O.counts self.new) (W.saw started self.new.observer.now)
+            → Knows config self.old.companion.now history
+            → Goes config before (shown_of O.told O.counts self.new) (W.saw started self.new.observer.now)
             (W.over self.new.observer.now) self.new.live self.new.companion.now
-            (λ _. IsDue config.now from_cii_text) result }
+            (λ _. IsDue config from_cii_text) result }
         ensures stays { Stays O.counts self.old self.new result }
     {
         let clocked = self.read(Why::Land)?;
@@ -127,9 +138,10 @@ impl<O: Outside, W: Observes> Run<'_, O, W> {
     }
 
     /// Takes a datagram, where the wall clock was dialled.
-    pub fn take(&mut self, config: &DriveConfig) -> Result<(), Driven>
+    pub fn take(&mut self) -> Result<(), Driven>
         requires { self.old.companion.now.client.floor ≤ (O.counts self.old.outside.now).last }
-        ensures goes { Leads O.told O.counts W.saw W.over config.now self.old self.new from_take from_cii_text result }
+        ensures goes { (config : Config)
+            → Leads O.told O.counts W.saw W.over config self.old self.new from_take from_cii_text result }
         ensures stays { Stays O.counts self.old self.new result }
     {
         let Some(_) = self.live.wc else {
@@ -140,30 +152,34 @@ impl<O: Outside, W: Observes> Run<'_, O, W> {
         match self.outside.take_datagram(&mut into) {
             Err(fault) => Err(end_of(fault)),
             Ok(None) => Ok(()),
-            Ok(Some((_, count))) => self.land(config, &into[..count]),
+            Ok(Some((_, count))) => self.land(&into[..count]),
         }
     }
 
-    /// Hears a session, where it is open.
-    pub fn hear(&mut self, config: &DriveConfig, session: Session) -> Result<(), Driven>
-        ensures goes { Leads O.told O.counts W.saw W.over config.now self.old self.new
+    /// Hears a session, where it is open, and tells whether a text came.
+    pub fn hear(&mut self, session: Session) -> Result<bool, Driven>
+        ensures called { HearsOnce (W.over self.new.observer.now) session (open_of session self.old.live)
+            (at O.told O.counts self.old) (at O.told O.counts self.new) result }
+        ensures goes { (config : Config) → Leads O.told O.counts W.saw W.over config self.old self.new
             (from_text session) (after_text session) result }
         ensures stays { Stays O.counts self.old self.new result }
     {
         let Some(peer) = self.live.peer_of(session) else {
-            return Ok(());
+            return Ok(false);
         };
         check(self.observer)?;
         match take_text(self.outside, peer)? {
-            Heard::Quiet => Ok(()),
+            Heard::Quiet => Ok(false),
             Heard::Text(text) => {
                 self.observer.heard(session, &text, self.companion);
-                take_in(self.companion, session, text)
+                take_in(self.companion, session, text)?;
+                Ok(true)
             }
             Heard::Closed => {
                 self.observer.closed(session);
                 self.live.close(peer);
-                let_go(self.companion, session)
+                let_go(self.companion, session)?;
+                Ok(false)
             }
         }
     }

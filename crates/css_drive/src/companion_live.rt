@@ -1,4 +1,7 @@
 //! A companion's run, as far as it has come.
+ghost use Rattle.std.specs.Prelude.{◌≡◌, ◌<◌};
+ghost use Rattle.css_drive.specs.CompanionStanding.{begun_at, no_calls};
+
 use css_companion::Companion;
 use std::alloc::Global;
 
@@ -22,6 +25,36 @@ pub struct Live {
     /// The peers of the sessions that are open.
     pub cii_open: Option<u32>,
     pub ts_open: Option<u32>,
+}
+
+impl Live {
+    /// Nothing was called yet.
+    pub fn new() -> Live
+        ensures { result ≡ no_calls }
+    {
+        Live {
+            first: None,
+            turn: None,
+            asked: None,
+            made: 0,
+            reported: 0,
+            cii: None,
+            wc: None,
+            ts: None,
+            cii_open: None,
+            ts_open: None,
+        }
+    }
+
+    /// A turn begins, at this reading.
+    pub fn begin(&mut self, reading: u64)
+        requires { self.old.made < 1099511627776 }
+        ensures { self.new ≡ begun_at reading self.old }
+    {
+        self.first = Some(self.first.unwrap_or(reading));
+        self.turn = Some(reading);
+        self.made += 1;
+    }
 }
 
 /// A companion's run: what it is made of, and how far it has come.

@@ -84,9 +84,7 @@ impl<O: Outside, W: Observes> Run<'_, O, W> {
             self.live.first,
             self.live.reported,
         );
-        self.live.first = Some(self.live.first.unwrap_or(reading));
-        self.live.turn = Some(reading);
-        self.live.made += 1;
+        self.live.begin(reading);
         if due {
             self.live.reported += 1;
             let report = self.companion.report(reading);
@@ -108,13 +106,14 @@ impl<O: Outside, W: Observes> Run<'_, O, W> {
         ensures tried { OnOk result (self.new.live.cii ≡ None
             → HasRisen (O.counts self.old.outside.now).dial_faults (O.counts self.new.outside.now).dial_faults) }
     {
-        self.dial_cii(config)?;
-        self.dial_wc(config)?;
+        self.dial_cii(&config.cii)?;
+        self.dial_wc()?;
         self.dial_ts(config)?;
-        self.ask(config)?;
-        self.take(config)?;
-        self.hear(config, Session::Cii)?;
-        self.hear(config, Session::Ts)
+        self.ask(config.ask_every)?;
+        self.take()?;
+        self.hear(Session::Cii)?;
+        self.hear(Session::Ts)?;
+        Ok(())
     }
 
     /// Makes a turn, of which nothing follows the report if it is the last, or the turn is the last by its time.
@@ -189,24 +188,12 @@ pub fn drive<O: Outside, W: Observes>(
     ensures dial_faults { CountsDialFaults (O.counts outside.old).dial_faults
         (O.counts outside.new).dial_faults result }
 {
-    let live = Live {
-        first: None,
-        turn: None,
-        asked: None,
-        made: 0,
-        reported: 0,
-        cii: None,
-        wc: None,
-        ts: None,
-        cii_open: None,
-        ts_open: None,
-    };
     let mut run = Run {
         alloc,
         companion,
         outside,
         observer,
-        live,
+        live: Live::new(),
     };
     run.turns(config)
 }

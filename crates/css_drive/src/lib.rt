@@ -25,6 +25,7 @@ mod tv_lines;
 mod tv_turns;
 
 pub use companion::{companion_of, drive_companion};
+pub use companion_live::{Live, Run};
 pub use companion_turns::drive;
 pub use config::DriveConfig;
 pub use css_address::{AddressFault, LONGEST_ADDRESS, address};

@@ -77,3 +77,38 @@ pub trait Observes {
     fn closed(&mut self, session: Session)
         ensures { (from : Standpoint) → Sees saw over self.old self.new (Happened from (notes.Closed session) ∷ []) };
 }
+
+/// Nobody is told, so a run goes on.
+impl Observes for () {
+    ghost use Rattle.std.specs.Prelude.{⊤, None};
+
+    ghost saw = { λ _ _ _. ⊤ };
+
+    ghost over = { λ _. None };
+
+    fn check(&self) -> Result<(), OutFault> {
+        Ok(())
+    }
+
+    fn slept(&mut self) {}
+
+    fn turned(&mut self, _clocked: &Clocked, _companion: &Companion) {}
+
+    fn reported(
+        &mut self,
+        _clocked: &Clocked,
+        _number: u64,
+        _report: &Report,
+        _companion: &Companion,
+    ) {}
+
+    fn dialled(&mut self, _kind: Kind, _peer: Option<u32>) {}
+
+    fn asked(&mut self, _reading: u64) {}
+
+    fn landed(&mut self, _clocked: &Clocked, _bytes: &[u8], _companion: &Companion) {}
+
+    fn heard(&mut self, _session: Session, _text: &Text, _companion: &Companion) {}
+
+    fn closed(&mut self, _session: Session) {}
+}

@@ -1,4 +1,5 @@
 pub mod Follows
 pub mod Steps
+mod AsCompanion
 pub mod ToldSessions
 pub mod SecondHop

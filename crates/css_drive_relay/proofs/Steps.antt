@@ -3,7 +3,7 @@
 use Rattle.std.proofs.Common.{◌≡◌, ℕ, ◌≤◌, ◌<◌, arith, ap, ◌∙◌, refl, Bool, true, false, cond, List, [], ◌∷◌, ◌++◌}
 use Rattle.std.proofs.Common.{Option, Some, None, ◌+◌, sym, subst, ◌||◌, inl, inr, Result, Ok, ap₂, Err}
 use Rattle.std.specs.Prelude.{All, ◌==◌, not, is_some, ◌⊎◌, unwrap_or, MatchResult, ◌&&◌, IfSome, length}
-use Rattle.std.specs.Option.{option_or, ForSome, option_map}
+use Rattle.std.specs.Option.{option_or, option_map}
 use Rattle.std.proofs.lemmas.Bool.{ne_eqb, eq-eqb, cond_both}
 use Rattle.std.proofs.lemmas.Option.{IfSome_then}
 use Rattle.css_model.specs.declared.Message.{Message}
@@ -38,9 +38,7 @@ use Rattle.css_drive_relay.specs.Due.{due, due_at, due_for, final, from_hang_ups
 use Rattle.css_drive_relay.specs.declared.live.Live.{Live}
 use Rattle.css_drive_relay.specs.declared.sessions.Visit.{Visit}
 use Rattle.css_drive_relay.specs.declared.config.RelayRun.{RelayRun}
-use Rattle.css_cii.specs.declared.name.CiiName.TheVariants.{WcUrl}
-use Rattle.css_address.specs.declared.fault.AddressFault.{AddressFault}
-use Rattle.css_drive.specs.CompanionDue.{dial_to, place, refusal_of, end_by}
+use Rattle.css_drive.specs.CompanionDue.{place, refusal_of, end_by}
 use Rattle.css_cii.specs.declared.state.State.{State}
 use Rattle.css_outside.specs.Faults.{HasRisen}
 use Rattle.css_drive.specs.CompanionTurns.{goes_on, is_late, is_asking}
@@ -301,7 +299,7 @@ module _ {run : RelayRun} {start now next : Shown} {live later : Live} {place : 
 
       by : (slept : Bool) → progress_of run (entries slept)
           ≡ after_clock run w clocked.reading (sleep_entries slept ++ history)
-          (record { facts = record (facts_in live) { asked = asked_after slept live.asked }; place = place })
+          (record { facts = record (facts_in live) { asked = asked_after slept live.own.asked }; place = place })
       by true = ap (λ (x : Progress). after_clock run w clocked.reading (Slept ∷ history)
           (record { facts = record x.facts { asked = None }; place = x.place })) s.progress
       by false = ap (after_clock run w clocked.reading history) s.progress
@@ -330,7 +328,7 @@ module _ {run : RelayRun} {start now mid : Shown} {live later : Live} {history :
   -- for a request of the relay's own
   pub asks : {place : Place} → Runs run start now (stood live place) history
       → due_at run (facts_in live) history place ≡ from_ask run (facts_in live) history
-      → (peer : ℕ) → live.wc ≡ Some peer → is_asking run.ask_every live.turn live.asked ≡ true
+      → (peer : ℕ) → live.own.wc ≡ Some peer → is_asking run.ask_every live.own.turn live.own.asked ≡ true
       → HasRead now mid live later why.Ask clocked
       → Runs run start mid (stood later (Asking clocked.reading)) (clock_entries why.Ask clocked ++ history)
   asks s is-due peer some time r =
@@ -371,12 +369,6 @@ stops_by_memory {run} {start} {now} s l ended e =
     subst (λ (x : Driven). Stops run start now x) (sym e) (stops_here s l driven.Memory (λ x. x) tt)
 
 -- ---- dials
--- what is due where the wall clock was not dialled
-pub wc_made : (o : Option ℕ) (url found : Option (Result Address AddressFault)) (rest : Due) → o ≡ None → url ≡ found
-    → dial_to o kind.Wc WcUrl url rest ≡ dial_to None kind.Wc WcUrl found rest
-wc_made o url found rest =
-    ap₂ (λ (p : Option ℕ) (x : Option (Result Address AddressFault)). dial_to p kind.Wc WcUrl x rest)
-
 -- how far the run is once a dial was tried
 abbrev pub called : Kind → Option ℕ → Facts → Progress
 called k None f = record { facts = f; place = Called k }
@@ -395,7 +387,7 @@ module _ (live : Live) {run : RelayRun} {start now : Shown} {relay : Relay} {his
   knows_dialled kind.Wc q lt opens = (
     s.runs.peers.0,
     All-nil (Came history),
-    IfSome_then live.television s.runs.peers.2 (λ peer is.
+    IfSome_then live.own.cii_open s.runs.peers.2 (λ peer is.
         ap (λ b. option_or (cond b (Some kind.Wc) None) (kind_of peer history)) (ne_eqb q peer (λ e.
         let none = unused (now.counts.peers + 1) history peer s.runs.ordered (omega (arith, lt, e)) in absurd (cc)))
         ∙ is),
@@ -426,17 +418,10 @@ module _ (live : Live) {run : RelayRun} {start now : Shown} {relay : Relay} {his
             (ap (λ b. b || false) (opens q));
       }
 
--- the variables, where the wall clock was not dialled before
-pub wc_called : (tried : Option ℕ) (f : Facts) → f.wc ≡ None
-    → called kind.Wc tried f ≡ record { facts = record f { wc = tried }; place = Called kind.Wc }
-wc_called None f none =
-    ap {A = Option ℕ} {B = Progress} (λ o. record { facts = record f { wc = o }; place = Called kind.Wc }) none
-wc_called (Some q) f none = refl
-
 module _ {run : RelayRun} {start now : Shown} {live : Live} where
   -- the turns are over, so all open sessions are to be hung up
   pub hangs_all : {history : History} → Stands run start now live.relay (stood live (Asked [])) history
-      → goes_on run.limit live.first live.turn live.made ≡ false
+      → goes_on run.limit live.own.first live.own.turn live.own.made ≡ false
       → HangsUp run start now live (all_open (facts_in live))
   hangs_all {history} s enough = record {
     history = history;
@@ -468,9 +453,9 @@ module _ {run : RelayRun} {start now : Shown} {live : Live} where
   all_hung e x none =
       subst (λ (d : Driven). Stops run start now d) (sym e) (stops_here x.stands.runs (lawful x.stands.knows)
       (final (facts_in live))
-      (cond_both (is_some live.cii || is_some live.wc) driven.Done (driven.Unreachable live.made)
+      (cond_both (is_some live.own.cii || is_some live.own.wc) driven.Done (driven.Unreachable live.own.made)
       (λ d. IsNetFault d → ⊥) (λ _ e. e) (λ _ e. e))
-      (cond_both (is_some live.cii || is_some live.wc) driven.Done (driven.Unreachable live.made)
+      (cond_both (is_some live.own.cii || is_some live.own.wc) driven.Done (driven.Unreachable live.own.made)
       (λ d. due_at run (facts_in live) x.history x.place ≡ Ends d
       → MayEnd (due_at run (facts_in live) x.history x.place) d) (λ _ e. e) (λ _ e. e)
       (x.next ∙ ap (from_hang_ups (final (facts_in live))) none)))
@@ -550,22 +535,26 @@ some_turns (Seconds seconds) range = omega arith
 
 -- the turns are over only once one was begun
 pub was_begun : (limit : Limit) → IsLimit limit → (first this : Option ℕ) (made : ℕ)
-    → ForSome first (λ x. 1 ≤ made) → goes_on limit first this made ≡ false → 1 ≤ made
-was_begun limit range (Some first) this made some over = some first refl
+    → IfSome first (λ x. 1 ≤ made) → goes_on limit first this made ≡ false → 1 ≤ made
+was_begun limit range (Some first) this made some over = some
 was_begun limit range None this made some over =
     let least = some_turns limit range in grind (arith, nat_tests, over, least)
 
+pub begun_more : (first : Option ℕ) (made : ℕ) → 1 ≤ made → IfSome first (λ x. 1 ≤ made)
+begun_more None made some = tt
+begun_more (Some first) made some = some
+
 -- the first turn isn't the last by its time
 pub was_second : (limit : Limit) → IsLimit limit → (first : Option ℕ) (made reading : ℕ)
-    → ForSome first (λ x. 1 ≤ made) → is_late limit (Some (unwrap_or first reading)) (Some reading) ≡ true → 1 ≤ made
-was_second limit range (Some first) made reading some last = some first refl
+    → IfSome first (λ x. 1 ≤ made) → is_late limit (Some (unwrap_or first reading)) (Some reading) ≡ true → 1 ≤ made
+was_second limit range (Some first) made reading some last = some
 was_second limit range None made reading none last =
     absurd (never_late limit (Some reading) (Some reading) range refl last)
 
 -- the turn's reading was told, and it is the last by its time or isn't
 pub begun : {run : RelayRun} {start now next : Shown} {live later : Live} {history : History} {f : Facts}
     {late last : Bool} {clocked : Clocked} → Stands run start now live.relay (stood live (Asked [])) history
-    → goes_on run.limit live.first live.turn live.made ≡ true → HasRead now next live later why.Turn clocked
+    → goes_on run.limit live.own.first live.own.turn live.own.made ≡ true → HasRead now next live later why.Turn clocked
     → f ≡ with_turn clocked.reading (facts_in later) → late ≡ is_late run.limit f.first f.turn → late ≡ last
     → Stands run start next later.relay (record { facts = f; place = cond last (Asked []) Begun })
     (clock_entries why.Turn clocked ++ history)
@@ -574,7 +563,7 @@ begun {run} {live = live} {later} {history} {f} {clocked = clocked} s on r e lat
     (stands_read s
     (ap (λ b. cond b (Now why.Turn) (from_hang_ups (final (facts_in live)) (all_open (facts_in live)))) on) tt r
     _ refl (unnamed history (places.begun run (with_turn clocked.reading (facts_in later)))
-    (cond_both (is_late run.limit (Some (unwrap_or later.first clocked.reading)) (Some clocked.reading)) (Asked [])
+    (cond_both (is_late run.limit (Some (unwrap_or later.own.first clocked.reading)) (Some clocked.reading)) (Asked [])
     Begun (λ at. named at ≡ []) (λ _. refl) (λ _. refl))))) _
     (ap {B = Progress} (λ b. record { facts = f; place = cond b (Asked []) Begun }) (sym late ∙ is))
 
@@ -624,7 +613,7 @@ module _ (live : Live) {run : RelayRun} {start now next : Shown} {history : Hist
   none_came told same = record {
     runs = runs_more s.runs (NoneCame ∷ []) (None, refl) told faults (stood live (welcomed (facts_in live)))
         (ap (after run NoneCame history) s.runs.progress)
-        (s.runs.peers.0, all_next (Came history) live.television live.peers.items s.runs.peers.0, s.runs.peers.2)
+        (s.runs.peers.0, all_next (Came history) live.own.cii_open live.peers.items s.runs.peers.0, s.runs.peers.2)
         (subst (λ (n : ℕ). AreInOrder (n + 1) history) (sym same) s.runs.ordered);
     knows = aside s.knows NoneCame tt;
   }
@@ -686,7 +675,7 @@ module _ (live : Live) {run : RelayRun} {start now : Shown} {history : History} 
 
   -- ---- the television's session, where it is open and where it isn't
   pub asked_next : Stands run start now relay (stood live (welcomed (facts_in live))) history → (o : Option ℕ)
-      → live.television ≡ o → Stands run start now relay (stood live (next_asked o live.peers.items)) history
+      → live.own.cii_open ≡ o → Stands run start now relay (stood live (next_asked o live.peers.items)) history
   asked_next s o e =
       stands_as s (stood live (next_asked o live.peers.items)) (ap (λ x. stood live (next_asked x live.peers.items)) e)
 

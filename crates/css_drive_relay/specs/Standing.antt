@@ -9,7 +9,8 @@ use Rattle.css_outside.specs.Faults.{HasRisen}
 use Rattle.css_outside.specs.Outsides.{Counts, with_entries, clock_entries, sleep_entries}
 use Rattle.css_outside.specs.declared.calls.Clocked.{Clocked}
 use Rattle.css_companion.specs.Meanings.{kind_of}
-use Rattle.css_companion.specs.Standing.{StandsFor, own_of}
+use Rattle.css_companion.specs.Standing.{Companion, StandsFor, own_of}
+use Rattle.css_drive.specs.declared.companion_live.Live.{Live as Own}
 use Rattle.css_relay.specs.Relays.{Relay, wc_url_of}
 use Rattle.css_drive.specs.CompanionStanding.{Shown, shown, IsCut, asked_after}
 use Rattle.css_drive.specs.Ends.{CountsNetFault, CountsDialFaults}
@@ -29,13 +30,13 @@ use Rattle.css_drive_relay.specs.declared.sessions.Visit.TheVariants as visit
 -- ---- what the variables say of the history
 abbrev pub facts_in : Live → Facts
 facts_in live = record {
-  turns = live.made;
-  first = live.first;
-  turn = live.turn;
-  asked = live.asked;
-  cii = live.cii;
-  wc = live.wc;
-  television = live.television;
+  turns = live.own.made;
+  first = live.own.first;
+  turn = live.own.turn;
+  asked = live.own.asked;
+  cii = live.own.cii;
+  wc = live.own.wc;
+  television = live.own.cii_open;
   state = live.state;
   peers = live.peers.items;
 }
@@ -139,12 +140,20 @@ Goes told counts run old new was is from to result = (start : Shown) (history : 
 -- What every stage of a turn leaves as it is. Failed dials are counted, the relay knows no reading above the last one,
 -- and an end comes in the midst of the turn.
 pub record Keeps {T : Type 0} (old new : Counts) (before now : Live) (result : Result T Driven) : Type 0 where
-  pub made : now.made ≡ before.made
-  pub dialled : now.cii ≡ None → before.cii ≡ None
+  pub made : now.own.made ≡ before.own.made
+  pub dialled : now.own.cii ≡ None → before.own.cii ≡ None
   pub dials : old.dial_faults ≤ new.dial_faults
   pub floor : before.relay.companion.client.floor ≤ old.last
       → OnOk result (now.relay.companion.client.floor ≤ new.last)
   pub cut : IfErr result IsCut
+
+-- What every call of the television leaves as it is, of what the relay keeps as a companion.
+pub record Stays {T : Type 0} (old new : Counts) (before now : Own) (was is : Companion) (result : Result T Driven)
+    : Type 0 where
+  pub made : now.made ≡ before.made
+  pub dialled : now.cii ≡ None → before.cii ≡ None
+  pub dials : old.dial_faults ≤ new.dial_faults
+  pub floor : was.client.floor ≤ old.last → OnOk result (is.client.floor ≤ new.last)
 
 -- The clock was read, and where the machine slept the relay knows.
 pub record HasRead (old new : Shown) (before now : Live) (why : Why) (clocked : Clocked) : Type 0 where
@@ -156,7 +165,7 @@ pub record HasRead (old new : Shown) (before now : Live) (why : Why) (clocked : 
   pub floor : now.relay.companion.client.floor ≤ clocked.reading
   pub known : (run : RelayRun) (history : History) → Knows run before.relay history
       → Knows run now.relay (sleep_entries clocked.slept ++ history)
-  pub only : facts_in now ≡ record (facts_in before) { asked = asked_after clocked.slept before.asked }
+  pub only : facts_in now ≡ record (facts_in before) { asked = asked_after clocked.slept before.own.asked }
 
 -- ---- the end
 -- The run came to where these sessions are to be hung up, and then it ends.
@@ -173,4 +182,4 @@ IsCounted before now ended = CountsDialFaults before now ended × (ended ≢ dri
 
 -- Where no dial of CSS-CII succeeded in a turn, one failed.
 abbrev pub HasTried : Counts → Counts → Live → Type 0
-HasTried before now live = 1 ≤ live.made → live.cii ≡ None → HasRisen before.dial_faults now.dial_faults
+HasTried before now live = 1 ≤ live.own.made → live.own.cii ≡ None → HasRisen before.dial_faults now.dial_faults

@@ -6,6 +6,7 @@ pub mod laws;
 mod live;
 mod sessions;
 mod stages;
+mod television;
 mod turns;
 
 pub use config::RelayRun;

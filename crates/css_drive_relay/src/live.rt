@@ -1,6 +1,5 @@
 //! What a relay's run keeps from call to call, among it what the relay published, and the texts that tell it.
-ghost use Rattle.std.specs.Prelude.{◌≡◌, ◌≤◌, ◌<◌, IfOk};
-ghost use Rattle.std.specs.Option.{ForSome};
+ghost use Rattle.std.specs.Prelude.{◌≡◌, IfOk};
 ghost use Rattle.css_cii.specs.Texts.{IsUtf8State};
 ghost use Rattle.css_sessions.specs.Kept as kept;
 
@@ -63,25 +62,10 @@ impl Published {
 pub struct Live {
     pub alloc: Global,
     pub relay: Relay,
-    /// How many turns were begun.
-    pub made: u64,
-    /// The reading of the first turn.
-    pub first: Option<u64>,
-    /// The reading of the present turn.
-    pub turn: Option<u64>,
-    /// The reading of the turn in which the last request was sent, if one was sent since the last sleep.
-    pub asked: Option<u64>,
-    /// The peers that were dialled.
-    pub cii: Option<u32>,
-    pub wc: Option<u32>,
-    /// The television's session of CSS-CII, where it is open.
-    pub television: Option<u32>,
+    /// What it keeps as a companion. Its session of CSS-CII is the television's.
+    pub own: css_drive::Live,
     /// The state that the accepted sessions were told last.
     pub state: Published,
     /// The accepted sessions that are open, in the order in which they came.
     pub peers: Vec<u32>,
-    pub ghost first_below: { ForSome first (λ reading. reading < 4294967296000000000) },
-    pub ghost first_made: { ForSome first (λ reading. 1 ≤ made) },
-    pub ghost asked_below: { ForSome asked (λ reading. reading < 4294967296000000000) },
-    pub ghost turn_below: { ForSome turn (λ reading. reading < 4294967296000000000) },
 }

@@ -1,13 +1,9 @@
 //! What a relay does with sessions: those that were opened, the television's text, texts of the others, and their end.
 ghost use Rattle.std.specs.Prelude.{◌≡◌, ◌≤◌, ◌∷◌, ◌⊎◌, ℕ, List, [], length, true, false, Some, None, OnOk, IfOk};
 ghost use Rattle.std.specs.Prelude.{IfErr, MatchResult};
-ghost use Rattle.css_model.specs.History as entries;
 ghost use Rattle.css_model.specs.History.{History};
-ghost use Rattle.css_model.specs.declared.Kind.TheVariants as kinds;
-ghost use Rattle.css_companion.specs.Meanings.{kind_of};
 ghost use Rattle.css_relay.specs.Relays.{relayed_state};
-ghost use Rattle.css_drive.specs.CompanionDue.{refusal_of};
-ghost use Rattle.css_drive.specs.CompanionStanding.{Shown, shown, IsCut, IsRefusal};
+ghost use Rattle.css_drive.specs.CompanionStanding.{Shown, shown, IsCut};
 ghost use Rattle.css_drive.specs.CompanionTurns.{goes_on};
 ghost use Rattle.css_drive_relay.specs.Due.{final};
 ghost use Rattle.css_drive_relay.specs.Places as places;
@@ -18,11 +14,11 @@ ghost use Rattle.css_drive_relay.specs.Standing.{IsAt, Keeps, Knows, Leads, Stan
 use crate::config::RelayRun;
 use crate::live::{Live, Published};
 use crate::stages::or_memory;
+use crate::television::hear;
 use css_drive::Driven;
-use css_drive::calls::{end_of, hang_up, refused, send_text, take_text};
+use css_drive::calls::{end_of, hang_up, send_text, take_text};
 use css_num::{Memory, Text};
 use css_outside::{Heard, Kind, Outside, Wrote};
-use css_relay::{CompanionEvent, Relay};
 
 /// What is done with each accepted session.
 #[derive(Drop)]
@@ -149,43 +145,17 @@ fn publish<O: Outside>(live: &mut Live, outside: &mut O) -> Result<(), Driven>
     }
 }
 
-/// Takes a text of the television in.
-fn take_in(relay: &mut Relay, text: Text) -> Result<(), Driven>
-    ensures told { (run : RelayRun) (peer : ℕ) (history : History)
-        → kind_of peer history ≡ Some kinds.Cii → Knows run relay.old history
-        → MatchResult result
-        (λ _. (refusal_of (Some text) history ≡ None) × Knows run relay.new (entries.Heard peer text ∷ history))
-        (IsRefusal (refusal_of (Some text) history)) }
-    ensures cut { IfErr result IsCut }
-    ensures same { relay.new.companion.client ≡ relay.old.companion.client }
-{
-    match relay.step(CompanionEvent::CiiText(text)) {
-        Ok(_) => Ok(()),
-        Err(fault) => Err(refused(fault)),
-    }
-}
-
 /// Hears the television's session, where it is open. What is new is told to each accepted session.
 pub fn hear_television<O: Outside>(live: &mut Live, outside: &mut O) -> Result<(), Driven>
     ensures goes { (run : RelayRun) → Leads O.told O.counts run outside.old outside.new live.old live.new
         (placed welcomed) (IsAt (λ f. Asked f.peers)) result }
     ensures keeps { Keeps (O.counts outside.old) (O.counts outside.new) live.old live.new result }
 {
-    let Some(peer) = live.television else {
-        return Ok(());
-    };
-    match take_text(outside, peer) {
-        Err(ended) => Err(ended),
-        Ok(Heard::Quiet) => Ok(()),
-        Ok(Heard::Closed) => {
-            live.television = None;
-            Ok(())
-        }
-        Ok(Heard::Text(text)) => {
-            take_in(&mut live.relay, text)?;
-            publish(live, outside)
-        }
+    let told = hear(live.alloc, live.relay.companion(), outside, &mut live.own)?;
+    if told {
+        return publish(live, outside);
     }
+    Ok(())
 }
 
 /// How many peers come before one.
@@ -215,7 +185,7 @@ fn all_open(live: &Live) -> Result<Vec<u32>, Memory>
     ensures { IfOk result (λ peers. peers.items ≡ places.all_open (facts_in live.now)) }
 {
     let mut peers = live.peers.clone()?;
-    if let Some(television) = live.television {
+    if let Some(television) = live.own.cii_open {
         insert(&mut peers, television)?;
     }
     Ok(peers)
@@ -225,10 +195,11 @@ fn all_open(live: &Live) -> Result<Vec<u32>, Memory>
 fn ending(live: &Live) -> Driven
     ensures { result ≡ final (facts_in live.now) }
 {
-    if live.cii.is_some() || live.wc.is_some() {
+    let own = &live.own;
+    if own.cii.is_some() || own.wc.is_some() {
         Driven::Done
     } else {
-        Driven::Unreachable { turns: live.made }
+        Driven::Unreachable { turns: own.made }
     }
 }
 
@@ -237,7 +208,7 @@ pub fn finish<O: Outside>(live: &Live, outside: &mut O) -> Driven
     ensures ends { (run : RelayRun) (start : Shown) (history : History)
         → Stands run start (shown (O.told outside.old) (O.counts outside.old)) live.now.relay
         (stood live.now (Asked [])) history
-        → goes_on run.limit live.now.first live.now.turn live.now.made ≡ false
+        → goes_on run.limit live.now.own.first live.now.own.turn live.now.own.made ≡ false
         → Stops run start (shown (O.told outside.new) (O.counts outside.new)) result }
     ensures dials { (O.counts outside.old).dial_faults ≤ (O.counts outside.new).dial_faults }
     ensures kind { (result ≡ final (facts_in live.now)) ⊎ IsCut result }

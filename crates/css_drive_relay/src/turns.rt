@@ -1,5 +1,5 @@
 //! A relay's run over any devices.
-ghost use Rattle.std.specs.Prelude.{◌≡◌, ◌≤◌, ◌<◌, ◌+◌, [], true, OnOk, IfOk, IfErr, None};
+ghost use Rattle.std.specs.Prelude.{◌≡◌, ◌≤◌, ◌<◌, ◌+◌, [], true, OnOk, IfOk, IfErr, IfSome, None};
 ghost use Rattle.css_model.specs.History.{History};
 ghost use Rattle.css_outside.specs.Faults.{HasRisen};
 ghost use Rattle.css_outside.specs.Outsides.{Counts};
@@ -13,7 +13,8 @@ ghost use Rattle.css_drive_relay.specs.Standing.{Leads, Stands, Stops};
 use crate::config::RelayRun;
 use crate::live::{Live, Published};
 use crate::sessions::{Visit, finish, hear_television, visit_all, welcome};
-use crate::stages::{ask, dial_cii, dial_wc, read, serve};
+use crate::stages::{read, serve};
+use crate::television::{ask, dial_cii, dial_wc};
 use css_cii::State;
 use css_companion::CompanionConfig;
 use css_drive::Driven;
@@ -30,12 +31,24 @@ fn calls<O: Outside>(run: &RelayRun, live: &mut Live, outside: &mut O) -> Result
     ensures goes { Leads O.told O.counts run.now outside.old outside.new live.old live.new
         (placed (λ f. Begun)) (IsAt (λ f. Asked [])) result }
     ensures keeps { Keeps (O.counts outside.old) (O.counts outside.new) live.old live.new result }
-    ensures tried { OnOk result (live.new.cii ≡ None
+    ensures tried { OnOk result (live.new.own.cii ≡ None
         → HasRisen (O.counts outside.old).dial_faults (O.counts outside.new).dial_faults) }
 {
-    dial_cii(run, live, outside)?;
-    dial_wc(run, live, outside)?;
-    ask(run, live, outside)?;
+    dial_cii(
+        live.alloc,
+        live.relay.companion(),
+        outside,
+        &mut live.own,
+        &run.cii,
+    )?;
+    dial_wc(live.alloc, live.relay.companion(), outside, &mut live.own)?;
+    ask(
+        live.alloc,
+        live.relay.companion(),
+        outside,
+        &mut live.own,
+        run.ask_every,
+    )?;
     serve(live, outside)?;
     welcome(live, outside)?;
     hear_television(live, outside)?;
@@ -45,12 +58,13 @@ fn calls<O: Outside>(run: &RelayRun, live: &mut Live, outside: &mut O) -> Result
 /// Makes a turn. One that is the last by its time ends with its reading.
 fn turn<O: Outside>(run: &RelayRun, live: &mut Live, outside: &mut O) -> Result<(), Driven>
     requires floor { live.old.relay.companion.client.floor ≤ (O.counts outside.old).last }
-    requires few { live.old.made < 1099511627776 }
-    ensures goes { turns.goes_on run.now.limit live.old.first live.old.turn live.old.made ≡ true
+    requires few { live.old.own.made < 1099511627776 }
+    requires begun { IfSome live.old.own.first (λ _. 1 ≤ live.old.own.made) }
+    ensures goes { turns.goes_on run.now.limit live.old.own.first live.old.own.turn live.old.own.made ≡ true
         → Leads O.told O.counts run.now outside.old outside.new live.old live.new
         (placed (λ f. Asked [])) (IsAt (λ f. Asked [])) result }
     ensures floor { OnOk result (live.new.relay.companion.client.floor ≤ (O.counts outside.new).last) }
-    ensures made { OnOk result (live.new.made ≡ live.old.made + 1) }
+    ensures made { OnOk result (live.new.own.made ≡ live.old.own.made + 1) }
     ensures dials { (O.counts outside.old).dial_faults ≤ (O.counts outside.new).dial_faults }
     ensures tried { (before : Counts) → before.dial_faults ≤ (O.counts outside.old).dial_faults
         → HasTried before (O.counts outside.old) live.old
@@ -58,10 +72,8 @@ fn turn<O: Outside>(run: &RelayRun, live: &mut Live, outside: &mut O) -> Result<
     ensures cut { IfErr result IsCut }
 {
     let reading = read(live, outside, Why::Turn)?.reading;
-    live.made += 1;
-    live.first = Some(live.first.unwrap_or(reading));
-    live.turn = Some(reading);
-    if is_late(run.limit, live.first, live.turn) {
+    live.own.begin(reading);
+    if is_late(run.limit, live.own.first, live.own.turn) {
         return Ok(());
     }
     calls(run, live, outside)
@@ -82,13 +94,7 @@ fn begin(alloc: Global, run: &RelayRun) -> Result<Live, Memory>
     Ok(Live {
         alloc,
         relay: Relay::new(alloc, wanted, &run.host, run.port)?,
-        made: 0,
-        first: None,
-        turn: None,
-        asked: None,
-        cii: None,
-        wc: None,
-        television: None,
+        own: css_drive::Live::new(),
         state: Published::new(State::empty()),
         peers: Vec::new(alloc),
     })
@@ -97,14 +103,15 @@ fn begin(alloc: Global, run: &RelayRun) -> Result<Live, Memory>
 /// Makes the turns of a run, once the relay listens.
 fn make_turns<O: Outside>(run: &RelayRun, live: &mut Live, outside: &mut O) -> Driven
     requires floor { live.old.relay.companion.client.floor ≤ (O.counts outside.old).last }
-    requires fresh { live.old.made ≡ 0 }
+    requires fresh { live.old.own.first ≡ None }
+    requires none { live.old.own.made ≡ 0 }
     ensures ends { (start : Shown) (history : History)
         → Stands run.now start (shown (O.told outside.old) (O.counts outside.old)) live.old.relay
         (stood live.old (Asked [])) history
         → Stops run.now start (shown (O.told outside.new) (O.counts outside.new)) result }
     ensures counted { IsCounted (O.counts outside.old).dial_faults (O.counts outside.new).dial_faults result }
 {
-    'turns: while goes_on(run.limit, live.first, live.turn, live.made) {
+    'turns: while goes_on(run.limit, live.own.first, live.own.turn, live.own.made) {
         if let Err(ended) = turn(run, live, outside) {
             return ended;
         }

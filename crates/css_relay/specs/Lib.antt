@@ -2,5 +2,6 @@ pub mod Precisions
 pub mod Middles
 pub mod Answers
 pub mod Relays
+pub mod Lending
 pub mod TwoHops
 pub mod FaultWords

@@ -1,5 +1,6 @@
 ghost use Rattle.std.specs.Prelude.{◌≡◌, ◌≤◌, ◌<◌, ◌+◌, ℕ, [], ◌∷◌, Ok, max, take, drop};
 ghost use Rattle.std.specs.Prelude.{IfOk, IfErr, IfSome, OnOk, OnErr};
+ghost use Rattle.std.specs.Borrow.{sem};
 ghost use Rattle.std.specs.Str.{IsUtf8};
 ghost use Rattle.css_num.specs.Gives.{GivesBy};
 ghost use Rattle.css_model.specs.declared.Why.TheVariants as why;
@@ -18,6 +19,7 @@ ghost use Rattle.css_companion.specs.Steps as steps;
 ghost use Rattle.css_companion.specs.declared.fault.CompanionFault.TheVariants as faults;
 ghost use Rattle.css_relay.specs.Answers.{requested_by, ticket_at, received_after, answered, answered_after};
 ghost use Rattle.css_relay.specs.Answers.{unless_wide, datagram_of, Responds};
+ghost use Rattle.css_relay.specs.Lending.{LendsCompanion};
 ghost use Rattle.css_relay.specs.Middles.{middle_known};
 ghost use Rattle.css_relay.specs.Relays.{wc_url_of, relayed_state};
 ghost use Rattle.css_relay.specs.TwoHops.{TicketIsTrue, AnswerIsTrue};
@@ -91,6 +93,14 @@ impl Relay {
             companion: Companion::new(alloc, config)?,
             wc_url,
         })
+    }
+
+    /// The companion that it is, for a loop that makes a companion's calls.
+    pub fn companion(&mut self) -> &mut Companion
+        ensures* lends { sem 𝓛 (LendsCompanion self.entry result) }
+        ensures value { result.now ≡ self.old.companion }
+    {
+        &mut self.companion
     }
 
     /// The request to send to the television, where the clock reads so now: [`Companion::ask`].

@@ -13,7 +13,7 @@ invariant-loop-peer g l = record {
   goes : (run : RelayRun) (start : Shown) (history : History)
       → Stands run start (shown (g.O.Outside.told l.fn.outside) (g.O.Outside.counts l.fn.outside)) l.live.relay
       (stood l.live (Asked [])) history
-      → goes_on run.limit l.live.first l.live.turn l.live.made ≡ false
+      → goes_on run.limit l.live.own.first l.live.own.turn l.live.own.made ≡ false
       → HangsUp run start (shown (g.O.Outside.told l.outside) (g.O.Outside.counts l.outside)) l.live
       (drop l.peer-index (all_open (facts_in l.live)));
   dials : (g.O.Outside.counts l.fn.outside).dial_faults ≤ (g.O.Outside.counts l.outside).dial_faults;

@@ -2,6 +2,7 @@ use Rattle.std.proofs.Common.{refl, sym, ap, ◌∙◌, ℕ, List, take, ◌∷�
 use Rattle.css_model.specs.History.{Took, TookNone}
 use Rattle.css_drive.proofs.CompanionSteps.{plain_adds}
 use Rattle.css_drive_relay.specs.Places.{Served}
+use Rattle.css_drive_relay.proofs.AsCompanion as companion
 use Rattle.css_drive_relay.proofs.Steps as steps
 use Rattle.css_drive_relay.proofs.stages.serve.Goals as goal
 
@@ -26,10 +27,11 @@ returns-else-is_request-clause-goes g c run start h at s d =
     let n : ℕ = c.in-Ok-Some.count in
     let room : List ℕ = c.take_datagram.new.into in
     let took = Took c.in-Ok-Some.peer (take n room) in
-    c.land.ensures.goes run c.in-Ok-Some.peer (sym c.is_request.ensures ∙ c.if-is_request.false) start h s.knows
-    (steps.stands_on s took (steps.may_as d (took ∷ []) (room, Some (c.in-Ok-Some.peer, n), refl)) tt
-    (steps.unnamed h Served refl) (plain_adds (rw c.in-Ok-Some.field-0-is at c.in-Ok-Some.ensures.told)
-    c.in-Ok-Some.ensures.counted.same c.in-Ok-Some.ensures.counted.faults))
+    companion.goes_land c.args.live.now (steps.stands_on s took (steps.may_as d (took ∷ [])
+    (room, Some (c.in-Ok-Some.peer, n), refl)) tt (steps.unnamed h Served refl)
+    (plain_adds (rw c.in-Ok-Some.field-0-is at c.in-Ok-Some.ensures.told) c.in-Ok-Some.ensures.counted.same
+    c.in-Ok-Some.ensures.counted.faults)) s.knows (sym c.is_request.ensures ∙ c.if-is_request.false) _ _
+    (rw c.companion.ensures.value at c.land.ensures.called)
 
 pub returns-in-Err-clause-goes : goal.returns-in-Err-clause-goes
 returns-in-Err-clause-goes g c run start h at s d =

@@ -1,4 +1,5 @@
-use Rattle.std.proofs.Common.{◌∙◌, sym, arith}
+use Rattle.std.proofs.Common.{◌∙◌, ◌≤◌, ℕ, Option, subst, sym, arith}
+use Rattle.std.specs.Prelude.{IfSome}
 use Rattle.css_drive.proofs.CompanionEnds.{below_most}
 use Rattle.css_drive.proofs.CompanionEnds.{risen_to}
 use Rattle.css_drive_relay.proofs.Steps as steps
@@ -10,7 +11,8 @@ turns-init g c = record {
   goes = λ start h s. (h, s);
   floor = c.requires.floor;
   dials = omega arith;
-  tried = λ some. absurd (omega (arith, some, c.requires.fresh));
+  tried = λ some. absurd (omega (arith, some, c.requires.none));
+  begun = subst (λ (o : Option ℕ). IfSome o (λ _. 1 ≤ c.args.live.now.own.made)) (sym c.requires.fresh) tt;
 }
 
 pub turns-preserved : goal.turns-preserved
@@ -23,6 +25,7 @@ turns-preserved g c =
       floor = c.in_default.ensures.floor;
       dials = omega (arith, c.turn.ensures.dials, i.dials);
       tried = c.in_default.ensures.tried (g.O.Outside.counts c.args.outside.now) i.dials i.tried;
+      begun = steps.begun_more _ _ (omega (arith, c.in_default.ensures.made));
     }
 
 pub turn-requires-clause-few : goal.turn-requires-clause-few
@@ -43,7 +46,7 @@ returns-clause-counted g c =
     let i = c.turns.invariant in
     let run = c.args.run.now in
     let live = c.turns.live in
-    let some = steps.was_begun run.limit run.limit_range live.first live.turn live.made live.first_made
+    let some = steps.was_begun run.limit run.limit_range live.own.first live.own.turn live.own.made i.begun
     (sym c.goes_on.ensures ∙ c.turns-test.false) in
     steps.ending_so (facts_in live) _ _ (omega (arith, i.dials, c.finish.ensures.dials))
     (λ none. risen_to _ _ _ c.finish.ensures.dials (i.tried some none)) _ c.finish.ensures.kind

@@ -1,4 +1,5 @@
 use Rattle.std.proofs.Common.{◌≤◌, ◌-◌, []}
+use Rattle.std.specs.Prelude.{IfSome}
 use Rattle.css_model.specs.History.{History}
 use Rattle.css_outside.specs.Limits.{most_turns}
 use Rattle.css_drive.specs.CompanionStanding.{Shown, shown}
@@ -15,7 +16,8 @@ invariant-turns g l = record {
   floor : l.live.relay.companion.client.floor ≤ (g.O.Outside.counts l.outside).last;
   dials : (g.O.Outside.counts l.fn.outside).dial_faults ≤ (g.O.Outside.counts l.outside).dial_faults;
   tried : HasTried (g.O.Outside.counts l.fn.outside) (g.O.Outside.counts l.outside) l.live;
+  begun : IfSome l.live.own.first (λ _. 1 ≤ l.live.own.made);
 }
 
 abbrev pub decreases-turns : goal.decreases-turns
-decreases-turns g l = most_turns l.run.limit - l.live.made
+decreases-turns g l = most_turns l.run.limit - l.live.own.made

@@ -2,6 +2,7 @@ use Rattle.std.proofs.Common.{◌∙◌, sym, ap, ℕ, Some, Option}
 use Rattle.std.specs.Prelude.{unwrap_or}
 use Rattle.css_outside.specs.declared.calls.Clocked.{Clocked}
 use Rattle.css_drive.specs.CompanionTurns.{is_late}
+use Rattle.css_drive.specs.declared.companion_live.Live.{Live as Own}
 use Rattle.css_drive.proofs.CompanionEnds.{risen_to}
 use Rattle.css_drive_relay.specs.Places.{Facts, with_turn}
 use Rattle.css_drive_relay.specs.Standing.{facts_in}
@@ -13,14 +14,14 @@ returns-then-is_late-clause-goes g c on start h s =
     let clocked : Clocked = c.in_ok-reading.field-0 in
     let now : Facts = with_turn clocked.reading (facts_in c.read.new.live) in
     steps.here (steps.begun {clocked = clocked} s on c.in_ok-reading.ensures.told
-    (ap {A = ℕ} (λ n. record now { first = Some n }) c.unwrap_or.ensures) c.is_late.ensures c.if-is_late.true)
+    (ap (λ own. facts_in (record c.read.new.live { own = own })) c.begin.ensures) c.is_late.ensures c.if-is_late.true)
 
 pub returns-clause-goes : goal.returns-clause-goes
 returns-clause-goes g c on start h s =
     let clocked : Clocked = c.in_ok-reading.field-0 in
     let now : Facts = with_turn clocked.reading (facts_in c.read.new.live) in
     c.calls.ensures.goes start _ (steps.begun {clocked = clocked} s on c.in_ok-reading.ensures.told
-    (ap {A = ℕ} (λ n. record now { first = Some n }) c.unwrap_or.ensures) c.is_late.ensures c.if-is_late.false)
+    (ap (λ own. facts_in (record c.read.new.live { own = own })) c.begin.ensures) c.is_late.ensures c.if-is_late.false)
 
 -- No dial is made in the last turn by time. The first reading stays the first, so that turn isn't the first one.
 pub returns-then-is_late-clause-tried : goal.returns-then-is_late-clause-tried
@@ -31,7 +32,7 @@ returns-then-is_late-clause-tried g c before le tried some none =
     let same = ap {A = Facts} (λ f. f.first) c.in_ok-reading.ensures.told.only in
     let last = sym c.is_late.ensures ∙ c.if-is_late.true in
     risen_to _ _ _ c.read.ensures.keeps.dials
-    (tried (steps.was_second limit c.args.run.now.limit_range live.first live.made reading live.first_made
+    (tried (steps.was_second limit c.args.run.now.limit_range live.own.first live.own.made reading c.requires.begun
     (ap {A = Option ℕ} (λ o. is_late limit (Some (unwrap_or o reading)) (Some reading)) (sym same)
-    ∙ ap {A = ℕ} (λ n. is_late limit (Some n) (Some reading)) (sym c.unwrap_or.ensures) ∙ last))
-    (c.read.ensures.keeps.dialled none))
+    ∙ ap (λ own. is_late limit own.first own.turn) (sym c.begin.ensures) ∙ last))
+    (c.read.ensures.keeps.dialled (ap {A = Own} (λ own. own.cii) (sym c.begin.ensures) ∙ none)))

@@ -6,8 +6,13 @@ use Rattle.css_drive.proofs.CompanionSteps.{comes, stands_tried, at_err, failed}
 use Rattle.css_drive.proofs.CompanionSteps as calls
 use Rattle.css_drive.proofs.companion_live.Run.dial_wc.Goals as goal
 
+pub returns-in_err-to-clause-called : goal.returns-in_err-to-clause-called
+returns-in_err-to-clause-called g c =
+    rw c.in-None.is (calls.told_err _ _ _ _ _ _ _ _ (ap (λ x. calls.wc_place x) c.state.ensures.value) refl _
+    c.from_residual.ensures.1 c.in_err-to.ensures.gives)
+
 pub returns-clause-goes : goal.returns-clause-goes
-returns-clause-goes g c before started h s k d =
+returns-clause-goes g c config before started h s k d =
     let p : ℕ = c.in-Some-2.peer in
     let gives = rw c.in-Some.is at c.in_ok-to.ensures.gives in
     let t = calls.wc_due s d c.in-None.is _ (c.state.ensures.meaning h k.stands) _ gives in
@@ -17,7 +22,7 @@ returns-clause-goes g c before started h s k d =
     (calls.knows_tried kind.Wc c.in-Some.to (Some p) refl k) _ refl
 
 pub returns-in_default-3-clause-goes : goal.returns-in_default-3-clause-goes
-returns-in_default-3-clause-goes g c before started h s k d =
+returns-in_default-3-clause-goes g c config before started h s k d =
     let gives = rw c.in-Some.is at c.in_ok-to.ensures.gives in
     let t = calls.wc_due s d c.in-None.is _ (c.state.ensures.meaning h k.stands) _ gives in
     let call = rw c.in_default-3.is at c.in_ok-peer.ensures in
@@ -25,12 +30,12 @@ returns-in_default-3-clause-goes g c before started h s k d =
     s.facts) (calls.knows_tried kind.Wc c.in-Some.to None tt k) _ refl
 
 pub returns-in_err-to-clause-goes : goal.returns-in_err-to-clause-goes
-returns-in_err-to-clause-goes g c before started h s k d =
+returns-in_err-to-clause-goes g c config before started h s k d =
     at_err _ _ _ c.from_residual.result c.from_residual.ensures.1
     (calls.bad_stops s k.stands.client.lawful _ _ _ _ _ c.in_err-to.ensures.gives
     (calls.wc_due s d c.in-None.is _ (c.state.ensures.meaning h k.stands) _ refl))
 
 pub returns-in_err-peer-clause-goes : goal.returns-in_err-peer-clause-goes
-returns-in_err-peer-clause-goes g c before started h s k d =
+returns-in_err-peer-clause-goes g c config before started h s k d =
     failed s _ _ k c.from_residual-in_err-peer.ensures.1 c.in_err-peer.ensures.told _
-    (c.in_err-peer.ensures.saw (standpoint c.args.config.now h) started _ s.saw_so)
+    (c.in_err-peer.ensures.saw (standpoint config h) started _ s.saw_so)

@@ -5,29 +5,50 @@ use Rattle.css_drive.proofs.CompanionSteps.{comes, stops_here, failed}
 use Rattle.css_drive.proofs.CompanionSteps as calls
 use Rattle.css_drive.proofs.companion_live.Run.land.Goals as goal
 
+pub returns-then-clocked-clause-called : goal.returns-then-clocked-clause-called
+returns-then-clocked-clause-called g c = record {
+  clocked = c.in_ok-clocked.clocked;
+  awake = c.read.new.self.companion.now;
+  read = c.in_ok-clocked.ensures.told;
+  known = λ config p h k.
+      let taken = c.in_ok-clocked.ensures.told.known config _ (calls.knows_plain (Took p c.args.bytes.now) k refl refl
+      refl refl refl refl refl) in
+      rw c.if-clocked.true (calls.knows_plain _ (rw c.if-clocked.true at taken) refl refl refl refl refl refl refl);
+}
+
+pub returns-in-Ok-clause-called : goal.returns-in-Ok-clause-called
+returns-in-Ok-clause-called g c = record {
+  clocked = c.in_ok-clocked.clocked;
+  awake = c.read.new.self.companion.now;
+  read = c.in_ok-clocked.ensures.told;
+  known = λ config p h k. rw c.if-clocked.false (
+      let k2 = rw c.if-clocked.false at (c.in_ok-clocked.ensures.told.known config h k) in record {
+        stands = c.in-Ok.ensures.stands h p k2.stands;
+        setup = ap (λ x. x.setup) c.in-Ok.ensures.keeps ∙ k2.setup;
+        own = c.in-Ok.ensures.own ∙ k2.own;
+      });
+}
+
 pub returns-then-clocked-clause-goes : goal.returns-then-clocked-clause-goes
-returns-then-clocked-clause-goes g c before started h p s k =
+unfolding returns-then-clocked-clause-called
+returns-then-clocked-clause-goes g c config before started h p s k =
+    let taken = calls.knows_plain (Took p c.args.bytes.now) k refl refl refl refl refl refl refl in
     let read = c.in_ok-clocked.ensures.told in
-    let taken = read.known _ _ (calls.knows_plain (Took p c.args.bytes.now) k refl refl refl refl refl refl refl) in
-    comes (calls.stands_landed s _ read (c.landed.ensures (standpoint _ (_ ∷ h)) taken started _
+    comes (calls.stands_landed s _ read (c.landed.ensures (standpoint _ (_ ∷ h)) (read.known config _ taken) started _
     c.in_ok-clocked.ensures.on (c.in_ok-clocked.ensures.saw started _ s.saw_so)))
-    (rw c.if-clocked.true (calls.knows_plain _ (rw c.if-clocked.true at taken) refl refl refl refl refl refl refl)) _
-    refl
+    ((returns-then-clocked-clause-called g c).known config p h k) _ refl
 
 pub returns-in-Ok-clause-goes : goal.returns-in-Ok-clause-goes
-returns-in-Ok-clause-goes g c before started h p s k =
+unfolding returns-in-Ok-clause-called
+returns-in-Ok-clause-goes g c config before started h p s k =
+    let taken = calls.knows_plain (Took p c.args.bytes.now) k refl refl refl refl refl refl refl in
     let read = c.in_ok-clocked.ensures.told in
-    let taken = read.known _ _ (calls.knows_plain (Took p c.args.bytes.now) k refl refl refl refl refl refl refl) in
-    comes (calls.stands_landed s _ read (c.landed.ensures (standpoint _ (_ ∷ h)) taken started _
+    comes (calls.stands_landed s _ read (c.landed.ensures (standpoint _ (_ ∷ h)) (read.known config _ taken) started _
     c.in_ok-clocked.ensures.on (c.in_ok-clocked.ensures.saw started _ s.saw_so)))
-    (rw c.if-clocked.false (let k2 = rw c.if-clocked.false at (read.known _ h k) in record {
-      stands = c.in-Ok.ensures.stands h p k2.stands;
-      setup = ap (λ x. x.setup) c.in-Ok.ensures.keeps ∙ k2.setup;
-      own = c.in-Ok.ensures.own ∙ k2.own;
-    })) _ refl
+    ((returns-in-Ok-clause-called g c).known config p h k) _ refl
 
 pub returns-in-Err-clause-goes : goal.returns-in-Err-clause-goes
-returns-in-Err-clause-goes g c before started h p s k =
+returns-in-Err-clause-goes g c config before started h p s k =
     let read = c.in_ok-clocked.ensures.told in
     let taken = read.known _ _ (calls.knows_plain (Took p c.args.bytes.now) k refl refl refl refl refl refl refl) in
     stops_here (calls.stands_landed s _ read (c.landed.ensures (standpoint _ (_ ∷ h)) taken started _
@@ -35,6 +56,6 @@ returns-in-Err-clause-goes g c before started h p s k =
     (calls.lawful_plain _ _ taken.stands.client.lawful refl refl) _ _ tt tt
 
 pub returns-in_err-clocked-clause-goes : goal.returns-in_err-clocked-clause-goes
-returns-in_err-clocked-clause-goes g c before started h p s k =
+returns-in_err-clocked-clause-goes g c config before started h p s k =
     failed s _ _ (calls.knows_plain (Took p c.args.bytes.now) k refl refl refl refl refl refl refl)
     c.from_residual.ensures.1 c.in_err-clocked.ensures.told _ (c.in_err-clocked.ensures.saw started _ s.saw_so)
