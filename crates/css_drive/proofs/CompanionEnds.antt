@@ -301,6 +301,7 @@ names_on n m = record {
   outside = m.outside ∙ n.outside;
   observer = m.observer ∙ n.observer;
   companion = m.companion ∙ n.companion;
+  live = m.live ∙ n.live;
 }
 
 -- ---- the end

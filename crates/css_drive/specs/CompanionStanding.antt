@@ -147,9 +147,9 @@ abbrev pub LeadsFrom : {O W T : Type 0} → (O → Option History) → (O → Co
     → Result T Driven → Type 0
 LeadsFrom {O} {W} told counts saw over config old new when at result =
     (before : Shown) (started : W) (history : History)
-    → Stands config before (shown_of told counts old) (saw started old.observer.now) old.live history
+    → Stands config before (shown_of told counts old) (saw started old.observer.now) old.live.now history
     → Knows config old.companion.now history → when history
-    → Goes config before (shown_of told counts new) (saw started new.observer.now) (over new.observer.now) new.live
+    → Goes config before (shown_of told counts new) (saw started new.observer.now) (over new.observer.now) new.live.now
     new.companion.now at result
 
 -- after a history this is due
@@ -342,12 +342,13 @@ pub record Names {O W : Type 0} (old new : Run O W) : Type 0 where
   pub outside : new.outside.ghost_name ≡ old.outside.ghost_name
   pub observer : new.observer.ghost_name ≡ old.observer.ghost_name
   pub companion : new.companion.ghost_name ≡ old.companion.ghost_name
+  pub live : new.live.ghost_name ≡ old.live.ghost_name
 
 -- What every stage of a turn does. Failed dials are counted, and the companion knows no reading above the last one.
 pub record Stays {O W T : Type 0} (counts : O → Counts) (old new : Run O W) (result : Result T Driven) : Type 0 where
   pub names : Names old new
-  pub made : new.live.made ≡ old.live.made
-  pub dialled : new.live.cii ≡ None → old.live.cii ≡ None
+  pub made : new.live.now.made ≡ old.live.now.made
+  pub dialled : new.live.now.cii ≡ None → old.live.now.cii ≡ None
   pub dials : (counts old.outside.now).dial_faults ≤ (counts new.outside.now).dial_faults
   pub floor : old.companion.now.client.floor ≤ (counts old.outside.now).last
       → OnOk result (new.companion.now.client.floor ≤ (counts new.outside.now).last)

@@ -36,7 +36,7 @@ abbrev pub at_of : Shown → Live → Companion → At
 at_of shown live companion = record { shown = shown; live = live; companion = companion }
 
 abbrev pub at : {O W : Type 0} → (O → Option History) → (O → Counts) → Run O W → At
-at told counts run = at_of (shown_of told counts run) run.live run.companion.now
+at told counts run = at_of (shown_of told counts run) run.live.now run.companion.now
 
 -- ---- dials
 -- the variables after a dial

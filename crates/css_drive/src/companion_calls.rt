@@ -128,7 +128,7 @@ impl<O: Outside, W: Observes> Run<'_, O, W> {
     pub fn read(&mut self, why: Why) -> Result<Clocked, Driven>
         requires { self.old.companion.now.client.floor ≤ (O.counts self.old.outside.now).last }
         ensures told { Calls (shown_of O.told O.counts self.old) (shown_of O.told O.counts self.new)
-            (W.over self.new.observer.now) (λ old new. HasRead old new self.old.live self.new.live
+            (W.over self.new.observer.now) (λ old new. HasRead old new self.old.live.now self.new.live.now
             self.old.companion.now self.new.companion.now why) result }
         ensures saw { (started : W) → (notes : List Note) → W.saw started self.old.observer.now notes
             → W.saw started self.new.observer.now notes }
@@ -150,11 +150,11 @@ impl<O: Outside, W: Observes> Run<'_, O, W> {
 
     /// Sends a text on the TS session, which may be over then.
     pub fn say(&mut self, peer: u32, text: &[u8]) -> Result<Wrote, Driven>
-        ensures goes { self.old.live.ts_open ≡ Some peer → (config : Config) → (point : Point)
+        ensures goes { self.old.live.now.ts_open ≡ Some peer → (config : Config) → (point : Point)
             → LeadsFrom O.told O.counts W.saw W.over config self.old self.new
             (λ history. IsAt config point history × (due_at config point history ≡ SendText peer text.now))
             (λ sent history. IsAt config (spoken sent point) history) result }
-        ensures kept { IfOk result (λ sent. sent ≡ Sent → self.new.live.ts_open ≡ self.old.live.ts_open) }
+        ensures kept { IfOk result (λ sent. sent ≡ Sent → self.new.live.now.ts_open ≡ self.old.live.now.ts_open) }
         ensures stays { Stays O.counts self.old self.new result }
     {
         check(self.observer)?;

@@ -47,12 +47,12 @@ fn owed(companion: &mut Companion, event: CompanionEvent) -> Result<Text, Driven
 impl<O: Outside, W: Observes> Run<'_, O, W> {
     /// Dials the session of CSS-CII, while no dial of it succeeded.
     pub fn dial_cii(&mut self, to: &Address) -> Result<(), Driven>
-        ensures called { DialsOnce (W.over self.new.observer.now) kinds.Cii self.old.live.cii to.now
+        ensures called { DialsOnce (W.over self.new.observer.now) kinds.Cii self.old.live.now.cii to.now
             (at O.told O.counts self.old) (at O.told O.counts self.new) result }
         ensures goes { (config : Config) → config.cii ≡ to.now
             → Leads O.told O.counts W.saw W.over config self.old self.new from_cii from_wc result }
         ensures stays { Stays O.counts self.old self.new result }
-        ensures tried { OnOk result (self.new.live.cii ≡ None
+        ensures tried { OnOk result (self.new.live.now.cii ≡ None
             → HasRisen (O.counts self.old.outside.now).dial_faults (O.counts self.new.outside.now).dial_faults) }
     {
         let None = self.live.cii else {
@@ -68,7 +68,7 @@ impl<O: Outside, W: Observes> Run<'_, O, W> {
 
     /// Dials the wall clock, while no dial of it succeeded and its address is told.
     pub fn dial_wc(&mut self) -> Result<(), Driven>
-        ensures called { DialsTold (W.over self.new.observer.now) kinds.Wc WcUrl self.old.live.wc
+        ensures called { DialsTold (W.over self.new.observer.now) kinds.Wc WcUrl self.old.live.now.wc
             (dues.place kinds.Wc self.old.companion.now.state.wc_url)
             (at O.told O.counts self.old) (at O.told O.counts self.new) result }
         ensures goes { (config : Config)
@@ -92,7 +92,7 @@ impl<O: Outside, W: Observes> Run<'_, O, W> {
     /// Sends the presentation, if the configuration has one.
     fn present(&mut self, config: &DriveConfig, peer: u32) -> Result<(), Driven>
         requires { IfSome config.now.present IsWindow }
-        ensures goes { self.old.live.ts_open ≡ Some peer → LeadsFrom O.told O.counts W.saw W.over config.now
+        ensures goes { self.old.live.now.ts_open ≡ Some peer → LeadsFrom O.told O.counts W.saw W.over config.now
             self.old self.new (IsAt config.now (SetUp peer)) (λ _. IsDue config.now from_ask) result }
         ensures stays { Stays O.counts self.old self.new result }
     {
@@ -107,7 +107,7 @@ impl<O: Outside, W: Observes> Run<'_, O, W> {
     /// Sends the setup, and after it the presentation.
     fn introduce(&mut self, config: &DriveConfig, peer: u32, setup: &Text) -> Result<(), Driven>
         requires { IfSome config.now.present IsWindow }
-        ensures goes { self.old.live.ts_open ≡ Some peer → setup.now ≡ setup_text (wanted_by config.now.companion)
+        ensures goes { self.old.live.now.ts_open ≡ Some peer → setup.now ≡ setup_text (wanted_by config.now.companion)
             → LeadsFrom O.told O.counts W.saw W.over config.now self.old self.new
             (IsAt config.now (Connected peer)) (λ _. IsDue config.now from_ask) result }
         ensures stays { Stays O.counts self.old self.new result }

@@ -77,7 +77,7 @@ impl<O: Outside, W: Observes> Run<'_, O, W> {
         requires { self.old.companion.now.client.floor ≤ (O.counts self.old.outside.now).last }
         ensures called { AsksOnce (W.over self.new.observer.now) (Some peer) true (at O.told O.counts self.old)
             (at O.told O.counts self.new) result }
-        ensures goes { self.old.live.wc ≡ Some peer → (config : Config) → Leads O.told O.counts W.saw W.over config
+        ensures goes { self.old.live.now.wc ≡ Some peer → (config : Config) → Leads O.told O.counts W.saw W.over config
             self.old self.new (a_reading whys.Ask) from_take result }
         ensures stays { Stays O.counts self.old self.new result }
     {
@@ -94,8 +94,8 @@ impl<O: Outside, W: Observes> Run<'_, O, W> {
     /// Asks the wall clock, where it was dialled and it is time.
     pub fn ask(&mut self, every: u64) -> Result<(), Driven>
         requires { self.old.companion.now.client.floor ≤ (O.counts self.old.outside.now).last }
-        ensures called { AsksOnce (W.over self.new.observer.now) self.old.live.wc
-            (is_asking every self.old.live.turn self.old.live.asked) (at O.told O.counts self.old)
+        ensures called { AsksOnce (W.over self.new.observer.now) self.old.live.now.wc
+            (is_asking every self.old.live.now.turn self.old.live.now.asked) (at O.told O.counts self.old)
             (at O.told O.counts self.new) result }
         ensures goes { (config : Config) → config.ask_every ≡ every
             → Leads O.told O.counts W.saw W.over config self.old self.new from_ask from_take result }
@@ -118,10 +118,10 @@ impl<O: Outside, W: Observes> Run<'_, O, W> {
             (FailsLanding (W.over self.new.observer.now) (at O.told O.counts self.old) (at O.told O.counts self.new)) }
         ensures goes { (config : Config) → (before : Shown) → (started : W) → (history : History) → (peer : ℕ)
             → Stands config before (shown_of O.told O.counts self.old) (W.saw started self.old.observer.now)
-            self.old.live (Took peer bytes.now ∷ history)
+            self.old.live.now (Took peer bytes.now ∷ history)
             → Knows config self.old.companion.now history
             → Goes config before (shown_of O.told O.counts self.new) (W.saw started self.new.observer.now)
-            (W.over self.new.observer.now) self.new.live self.new.companion.now
+            (W.over self.new.observer.now) self.new.live.now self.new.companion.now
             (λ _. IsDue config from_cii_text) result }
         ensures stays { Stays O.counts self.old self.new result }
     {
@@ -158,7 +158,7 @@ impl<O: Outside, W: Observes> Run<'_, O, W> {
 
     /// Hears a session, where it is open, and tells whether a text came.
     pub fn hear(&mut self, session: Session) -> Result<bool, Driven>
-        ensures called { HearsOnce (W.over self.new.observer.now) session (open_of session self.old.live)
+        ensures called { HearsOnce (W.over self.new.observer.now) session (open_of session self.old.live.now)
             (at O.told O.counts self.old) (at O.told O.counts self.new) result }
         ensures goes { (config : Config) → Leads O.told O.counts W.saw W.over config self.old self.new
             (from_text session) (after_text session) result }
@@ -188,15 +188,15 @@ impl<O: Outside, W: Observes> Run<'_, O, W> {
     fn hang_up_one(&mut self, session: Session) -> Result<(), Driven>
         ensures goes { (config : Config) → (before : Shown) → (started : W) → (end : Driven)
             → (from : Hangs config before (shown_of O.told O.counts self.old) (W.saw started self.old.observer.now)
-            self.old.live end)
-            → (rest : Due) → due config from.history ≡ hang_up (open_of session self.old.live) rest
+            self.old.live.now end)
+            → (rest : Due) → due config from.history ≡ hang_up (open_of session self.old.live.now) rest
             → MatchResult result
             (λ _. Hangs config before (shown_of O.told O.counts self.new) (W.saw started self.new.observer.now)
-            self.new.live end)
+            self.new.live.now end)
             (Stops config before (shown_of O.told O.counts self.new) (W.saw started self.new.observer.now)
             (W.over self.new.observer.now)) }
-        ensures shut { OnOk result (open_of session self.new.live ≡ None) }
-        ensures cii { OnOk result (self.old.live.cii_open ≡ None → self.new.live.cii_open ≡ None) }
+        ensures shut { OnOk result (open_of session self.new.live.now ≡ None) }
+        ensures cii { OnOk result (self.old.live.now.cii_open ≡ None → self.new.live.now.cii_open ≡ None) }
         ensures stays { Stays O.counts self.old self.new result }
     {
         let Some(peer) = self.live.peer_of(session) else {
@@ -214,7 +214,7 @@ impl<O: Outside, W: Observes> Run<'_, O, W> {
     pub fn hang_up(&mut self, end: Driven) -> Driven
         ensures stops { (config : Config) → (before : Shown) → (started : W)
             → Hangs config before (shown_of O.told O.counts self.old) (W.saw started self.old.observer.now)
-            self.old.live end
+            self.old.live.now end
             → Stops config before (shown_of O.told O.counts self.new) (W.saw started self.new.observer.now)
             (W.over self.new.observer.now) result }
         ensures names { Names self.old self.new }

@@ -64,5 +64,5 @@ pub struct Run<'a, O, W> {
     pub companion: &'a mut Companion,
     pub outside: &'a mut O,
     pub observer: &'a mut W,
-    pub live: Live,
+    pub live: &'a mut Live,
 }

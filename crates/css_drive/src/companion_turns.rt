@@ -64,15 +64,15 @@ impl<O: Outside, W: Observes> Run<'_, O, W> {
     /// Begins a turn, and makes the report that is due, if one is.
     fn start(&mut self, config: &DriveConfig) -> Result<(), Driven>
         requires floor { self.old.companion.now.client.floor ≤ (O.counts self.old.outside.now).last }
-        requires made { self.old.live.made < 1099511627776 }
-        requires reported { self.old.live.reported < 1000000 }
+        requires made { self.old.live.now.made < 1099511627776 }
+        requires reported { self.old.live.now.reported < 1000000 }
         ensures goes { Leads O.told O.counts W.saw W.over config.now self.old self.new
             (a_reading whys.Turn) from_turn result }
         ensures names { Names self.old self.new }
         ensures floor { OnOk result (self.new.companion.now.client.floor ≤ (O.counts self.new.outside.now).last) }
-        ensures made { OnOk result (self.new.live.made ≡ self.old.live.made + 1) }
-        ensures first { OnOk result (self.old.live.first ≡ None → self.new.live.first ≡ self.new.live.turn) }
-        ensures dialled { OnOk result (self.new.live.cii ≡ None → self.old.live.cii ≡ None) }
+        ensures made { OnOk result (self.new.live.now.made ≡ self.old.live.now.made + 1) }
+        ensures first { OnOk result (self.old.live.now.first ≡ None → self.new.live.now.first ≡ self.new.live.now.turn) }
+        ensures dialled { OnOk result (self.new.live.now.cii ≡ None → self.old.live.now.cii ≡ None) }
         ensures dials { (O.counts self.old.outside.now).dial_faults ≤ (O.counts self.new.outside.now).dial_faults }
         ensures early { IfErr result IsEarly }
     {
@@ -103,7 +103,7 @@ impl<O: Outside, W: Observes> Run<'_, O, W> {
         requires bounds { IfSome config.now.present IsWindow }
         ensures goes { Leads O.told O.counts W.saw W.over config.now self.old self.new from_cii from_end result }
         ensures stays { Stays O.counts self.old self.new result }
-        ensures tried { OnOk result (self.new.live.cii ≡ None
+        ensures tried { OnOk result (self.new.live.now.cii ≡ None
             → HasRisen (O.counts self.old.outside.now).dial_faults (O.counts self.new.outside.now).dial_faults) }
     {
         self.dial_cii(&config.cii)?;
@@ -121,22 +121,22 @@ impl<O: Outside, W: Observes> Run<'_, O, W> {
     #[tactic(none)]
     fn turn(&mut self, config: &DriveConfig) -> Result<(), Driven>
         requires floor { self.old.companion.now.client.floor ≤ (O.counts self.old.outside.now).last }
-        requires made { self.old.live.made < 1099511627776 }
-        requires reported { self.old.live.reported < config.now.reports }
+        requires made { self.old.live.now.made < 1099511627776 }
+        requires reported { self.old.live.now.reported < config.now.reports }
         requires bounds { IfSome config.now.present IsWindow }
         ensures goes { Leads O.told O.counts W.saw W.over config.now self.old self.new
             (a_reading whys.Turn) from_end result }
         ensures names { Names self.old self.new }
         ensures floor { OnOk result (self.new.companion.now.client.floor ≤ (O.counts self.new.outside.now).last) }
-        ensures made { OnOk result (self.new.live.made ≡ self.old.live.made + 1) }
+        ensures made { OnOk result (self.new.live.now.made ≡ self.old.live.now.made + 1) }
         ensures dials { (O.counts self.old.outside.now).dial_faults ≤ (O.counts self.new.outside.now).dial_faults }
         ensures early { IfErr result IsEarly }
         ensures tried { (started : ℕ) → started ≤ (O.counts self.old.outside.now).dial_faults
-            → HasTried config.now started (O.counts self.old.outside.now).dial_faults self.old.live
-            → OnOk result (HasTried config.now started (O.counts self.new.outside.now).dial_faults self.new.live) }
+            → HasTried config.now started (O.counts self.old.outside.now).dial_faults self.old.live.now
+            → OnOk result (HasTried config.now started (O.counts self.new.outside.now).dial_faults self.new.live.now) }
     {
         self.start(config)?;
-        if is_calling(&self.live, config) {
+        if is_calling(self.live, config) {
             return self.calls(config);
         }
         Ok(())
@@ -148,7 +148,7 @@ impl<O: Outside, W: Observes> Run<'_, O, W> {
         requires floor { self.old.companion.now.client.floor ≤ (O.counts self.old.outside.now).last }
         requires bounds { IfSome config.now.present IsWindow }
         requires begun { W.saw self.old.observer.now self.old.observer.now [] }
-        requires fresh { facts_of config.now [] ≡ self.old.live }
+        requires fresh { facts_of config.now [] ≡ self.old.live.now }
         ensures names { Names self.old self.new }
         ensures made { Made config.now (O.told self.old.outside.now) (O.told self.new.outside.now)
             (W.saw self.old.observer.now self.new.observer.now) (W.over self.new.observer.now) result }
@@ -157,16 +157,46 @@ impl<O: Outside, W: Observes> Run<'_, O, W> {
         ensures dial_faults { CountsDialFaults (O.counts self.old.outside.now).dial_faults
             (O.counts self.new.outside.now).dial_faults result }
     {
-        'turns: while goes_again(&self.live, config) {
+        'turns: while goes_again(self.live, config) {
             match self.turn(config) {
                 Ok(()) => {}
                 Err(ended) => return ended_by(self.observer, ended),
             }
         }
-        let end = ending(&self.live, config.reports);
+        let end = ending(self.live, config.reports);
         let ended = self.hang_up(end);
         ended_by(self.observer, ended)
     }
+}
+
+/// Makes the turns of a run of which nothing was called yet.
+fn drive_from<O: Outside, W: Observes>(
+    alloc: Global,
+    config: &DriveConfig,
+    companion: &mut Companion,
+    outside: &mut O,
+    observer: &mut W,
+    live: &mut Live,
+) -> Driven
+    requires known { Knows config.now companion.old [] }
+    requires floor { companion.old.client.floor ≡ 0 }
+    requires bounds { IfSome config.now.present IsWindow }
+    requires begun { W.saw observer.old observer.old [] }
+    requires fresh { facts_of config.now [] ≡ live.old }
+    ensures made { Made config.now (O.told outside.old) (O.told outside.new) (W.saw observer.old observer.new)
+        (W.over observer.new) result }
+    ensures net_faults { CountsNetFault (O.counts outside.old).faults (O.counts outside.new).faults result }
+    ensures dial_faults { CountsDialFaults (O.counts outside.old).dial_faults
+        (O.counts outside.new).dial_faults result }
+{
+    let mut run = Run {
+        alloc,
+        companion,
+        outside,
+        observer,
+        live,
+    };
+    run.turns(config)
 }
 
 /// Makes the turns of a companion's run. The observer is told what happens, each report where it was made, and nothing
@@ -188,12 +218,6 @@ pub fn drive<O: Outside, W: Observes>(
     ensures dial_faults { CountsDialFaults (O.counts outside.old).dial_faults
         (O.counts outside.new).dial_faults result }
 {
-    let mut run = Run {
-        alloc,
-        companion,
-        outside,
-        observer,
-        live: Live::new(),
-    };
-    run.turns(config)
+    let mut live = Live::new();
+    drive_from(alloc, config, companion, outside, observer, &mut live)
 }

@@ -36,11 +36,9 @@ pub fn read<O: Outside>(
         companion,
         outside,
         observer: &mut (),
-        live: *own,
+        live: own,
     };
-    let made = run.read(why);
-    *own = run.live;
-    made
+    run.read(why)
 }
 
 /// Dials the session of CSS-CII, while no dial of it succeeded.
@@ -65,11 +63,9 @@ pub fn dial_cii<O: Outside>(
         companion,
         outside,
         observer: &mut (),
-        live: *own,
+        live: own,
     };
-    let made = run.dial_cii(to);
-    *own = run.live;
-    made
+    run.dial_cii(to)
 }
 
 /// Dials the wall clock, while no dial of it succeeded and its address is told.
@@ -91,11 +87,9 @@ pub fn dial_wc<O: Outside>(
         companion,
         outside,
         observer: &mut (),
-        live: *own,
+        live: own,
     };
-    let made = run.dial_wc();
-    *own = run.live;
-    made
+    run.dial_wc()
 }
 
 /// Asks the wall clock, where it was dialled and it is time.
@@ -119,11 +113,9 @@ pub fn ask<O: Outside>(
         companion,
         outside,
         observer: &mut (),
-        live: *own,
+        live: own,
     };
-    let made = run.ask(every);
-    *own = run.live;
-    made
+    run.ask(every)
 }
 
 /// Lands a datagram that was just taken.
@@ -149,11 +141,9 @@ pub fn land<O: Outside>(
         companion,
         outside,
         observer: &mut (),
-        live: *own,
+        live: own,
     };
-    let made = run.land(bytes);
-    *own = run.live;
-    made
+    run.land(bytes)
 }
 
 /// Hears the session of CSS-CII, where it is open, and tells whether a text came.
@@ -175,9 +165,7 @@ pub fn hear<O: Outside>(
         companion,
         outside,
         observer: &mut (),
-        live: *own,
+        live: own,
     };
-    let made = run.hear(Session::Cii);
-    *own = run.live;
-    made
+    run.hear(Session::Cii)
 }

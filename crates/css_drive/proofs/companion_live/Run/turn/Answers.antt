@@ -38,7 +38,7 @@ returns-then-is_calling g c = record {
 -- ---- nothing follows the report
 pub returns : goal.returns
 returns g c =
-    let last : is_calling c.args.config.now c.start.new.self.live ≡ false =
+    let last : is_calling c.args.config.now c.start.new.self.live.now ≡ false =
     sym c.is_calling.ensures ∙ c.if-is_calling.false in
     record {
       goes = λ before started h s k d.
@@ -50,6 +50,6 @@ returns g c =
       dials = c.start.ensures.dials;
       early = tt;
       tried = λ started le tried few some none. ends.risen_within _ _ _ _ (omega arith) c.start.ensures.dials
-          (tried c.requires.reported (λ first. ends.first_calls c.args.config.now c.start.new.self.live few
+          (tried c.requires.reported (λ first. ends.first_calls c.args.config.now c.start.new.self.live.now few
           (c.in_ok-start.ensures.first first) last) (c.in_ok-start.ensures.dialled none));
     }

@@ -8,9 +8,9 @@ use Rattle.css_drive.proofs.companion_live.Run.turns.Goals as goal
 
 pub turns-init : goal.turns-init
 turns-init g c = record {
-  run = comes (ends.stands_first c.args.config.now _ _ c.args.self.now.live c.requires.fresh c.requires.begun)
+  run = comes (ends.stands_first c.args.config.now _ _ c.args.self.now.live.now c.requires.fresh c.requires.begun)
       c.requires.known _ refl;
-  names = record { outside = refl; observer = refl; companion = refl };
+  names = record { outside = refl; observer = refl; companion = refl; live = refl };
   floor = c.requires.floor;
   dials = omega arith;
   tried = λ few begun. absurd (begun (sym (ap {A = Live} (λ x. x.first) c.requires.fresh)));
@@ -66,7 +66,7 @@ returns g c =
     let le : (g.O.Outside.counts c.args.self.now.outside.now).dial_faults
     ≤ (g.O.Outside.counts c.hang_up-ended.new.self.outside.now).dial_faults =
     omega (arith, i.dials, c.hang_up-ended.ensures.dials) in
-    let hung = ends.hung_dials _ _ cfg.reports c.turns.self.live _ _ le (λ few none.
+    let hung = ends.hung_dials _ _ cfg.reports c.turns.self.live.now _ _ le (λ few none.
     ends.risen_within _ _ _ _ (omega arith) c.hang_up-ended.ensures.dials
     (i.tried few (ends.has_begun w.stands over few) none)) c.ending-end.ensures c.hang_up-ended.ensures.kind in
     record {
