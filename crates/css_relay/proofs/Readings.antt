@@ -1,7 +1,6 @@
 -- The middle of a span that contains the wall clock reads it within half the span's width.
 use Rattle.std.proofs.Common.{◌≡◌, ℕ, ◌≤◌, ◌<◌, arith, subst, refl, Bool, true, false, cond}
-use Rattle.std.specs.Prelude.{ℤ, pos, negsuc, ◌≤ℤ◌, min, int_lt, Option, Some, None, Result, Ok, Err}
-use Rattle.std.specs.Int.{int_min, int_max}
+use Rattle.std.specs.Prelude.{ℤ, pos, negsuc, ◌≤ℤ◌, Option, Some, None, Result, Ok, Err}
 use Rattle.std.proofs.lemmas.Int.{ints}
 use Rattle.css_num.specs.Spans.{Interval}
 use Rattle.css_model.specs.declared.Stamp.{Stamp}

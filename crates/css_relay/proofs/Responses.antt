@@ -10,7 +10,7 @@ use Rattle.css_model.specs.Numbers.{IsWithin, precision_ns}
 use Rattle.css_model.specs.WallClock.{Answer, Local}
 use Rattle.css_model.specs.Wire.{reading_of, stamp_of}
 use Rattle.css_model.specs.World.{World}
-use Rattle.css_model.specs.History.{Entry, History, Each, is_sleep, LandedAnswer, landed_answer, landed_answers}
+use Rattle.css_model.specs.History.{History, Each, is_sleep, LandedAnswer, landed_answer, landed_answers}
 use Rattle.css_model.specs.History.{times_of, is_possible, possible_answers, accepted_answers}
 use Rattle.css_model.specs.Explains.{IsTruthful, TruthfulAt}
 use Rattle.css_model.proofs.Requests.{reading_of-stamp_of}

@@ -1,5 +1,5 @@
 -- What a relay answers is true, and so it serves a second companion as the television does.
-use Rattle.std.proofs.Common.{◌≡◌, ℕ, suc, ◌≤◌, ◌<◌, arith, subst, sym, refl, inl, inr, [], ◌∷◌, length}
+use Rattle.std.proofs.Common.{◌≡◌, ℕ, suc, ◌<◌, arith, subst, sym, refl, inl, inr, [], ◌∷◌, length}
 use Rattle.std.specs.Prelude.{List, Option, Some, None, IfSome, IsTrue, Result, Ok, Err, IfOk}
 use Rattle.std.specs.Option.{option_map}
 use Rattle.css_model.specs.declared.Message.{Message}
@@ -12,7 +12,7 @@ use Rattle.css_model.specs.Numbers.{IsWithin}
 use Rattle.css_model.specs.Wire.{decoded}
 use Rattle.css_model.specs.History.{Entry, Clock, History, Each, Once, LandedAnswer, landed_answer, accepted_answers}
 use Rattle.css_model.specs.History.{landed_answers, is_possible, wall_answer}
-use Rattle.css_model.specs.Explains.{IsLawful, IsTruthful, TruthfulAt, HappensIn, Explains}
+use Rattle.css_model.specs.Explains.{IsLawful, IsTruthful, TruthfulAt, Explains}
 use Rattle.css_model.proofs.Prefixes.{IsLawful-older, Explains-older}
 use Rattle.css_model.proofs.Wall.{wall_is_true}
 use Rattle.css_num.specs.Spans.{Interval}
@@ -21,7 +21,7 @@ use Rattle.css_span.specs.WallSpans.{span_of, wall_span}
 use Rattle.css_client.specs.Standing.{SpanHolds}
 use Rattle.css_companion.specs.Standing.{Companion, StandsFor, own_of}
 use Rattle.css_relay.specs.Answers.{Ticket, requested_by, received_after, answered, answered_after, Responds}
-use Rattle.css_relay.specs.TwoHops.{IsTrueResponse, IsTruthfulToAll, IsAnswerOf, AnswersAreTrue, TrueIsTruthful}
+use Rattle.css_relay.specs.TwoHops.{IsTrueResponse, IsAnswerOf, AnswersAreTrue, TrueIsTruthful}
 use Rattle.css_relay.specs.TwoHops.{IsRelayed, RelayedAt, TwoHopsAreTrue, TicketIsTrue, AnswerIsTrue, IsTrueDatagram}
 use Rattle.css_relay.specs.declared.fault.RelayFault.{RelayFault}
 use Rattle.css_relay.proofs.Readings.{ticket_reads}

@@ -1,5 +1,5 @@
 -- The address is UTF-8.
-use Rattle.std.proofs.Common.{◌<◌, ◌^◌, arith, rules, sym, subst}
+use Rattle.std.proofs.Common.{◌<◌, ◌^◌, rules, sym, subst}
 use Rattle.std.proofs.lemmas.Result.{IfOk-weaker}
 use Rattle.std.specs.Str.{IsUtf8}
 use Rattle.css_relay.proofs.HostTexts.{wc_url_utf8}
