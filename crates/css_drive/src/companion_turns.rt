@@ -71,7 +71,8 @@ impl<O: Outside, W: Observes> Run<'_, O, W> {
         ensures names { Names self.old self.new }
         ensures floor { OnOk result (self.new.companion.now.client.floor ≤ (O.counts self.new.outside.now).last) }
         ensures made { OnOk result (self.new.live.now.made ≡ self.old.live.now.made + 1) }
-        ensures first { OnOk result (self.old.live.now.first ≡ None → self.new.live.now.first ≡ self.new.live.now.turn) }
+        ensures first { OnOk result (self.old.live.now.first ≡ None
+            → self.new.live.now.first ≡ self.new.live.now.turn) }
         ensures dialled { OnOk result (self.new.live.now.cii ≡ None → self.old.live.now.cii ≡ None) }
         ensures dials { (O.counts self.old.outside.now).dial_faults ≤ (O.counts self.new.outside.now).dial_faults }
         ensures early { IfErr result IsEarly }
