@@ -109,7 +109,7 @@ impl Replay {
     fn open(&mut self, text: &[u8]) -> Result<(), LineFault>
         requires well { (number : ℕ) × (extent : Extent) × StandsAt self.old extent × IsWell number extent }
         requires none { self.old.world ≡ None }
-        ensures reads { (extent : Extent) → StandsAt self.old extent
+        ensures { (extent : Extent) → StandsAt self.old extent
             → ReadsOn extent text.now result (λ next done. StandsAt self.new next) }
     {
         let header = self.read_on(text)?;

@@ -1,5 +1,4 @@
-use Rattle.std.proofs.Common.{◌≡◌, ◌+◌, ◌∷◌, [], arith, length, refl, rules}
-use Rattle.std.proofs.lemmas.List.{length-append}
+use Rattle.std.proofs.Common.{◌+◌, length, refl, rules}
 use Rattle.css_world.specs.Verdicts.{line_meant}
 use Rattle.css_replay.specs.Replayed.{reached}
 use Rattle.css_replay.proofs.Texts.{answered, on_carried, whole, reached-push, well}
@@ -13,12 +12,12 @@ open-requires-clause-well c =
 
 pub returns-in-Ok-clause-stands : goal.returns-in-Ok-clause-stands
 returns-in-Ok-clause-stands c = λ before stands is.
-    let opens = c.in-Ok.ensures.reads (reached before) stands (length before + 1) in
+    let opens = c.in-Ok.ensures (reached before) stands (length before + 1) in
     rw (reached-push before c.args.text.now) opens.1
 
 pub returns-in-Err-clause-answers : goal.returns-in-Err-clause-answers
 returns-in-Err-clause-answers c = λ before stands is.
-    let reads = c.in-Err.ensures.reads (reached before) stands (length before + 1) in
+    let reads = c.in-Err.ensures (reached before) stands (length before + 1) in
     record { cases = (rw c.unread.ensures reads, refl) }
 
 -- it is
