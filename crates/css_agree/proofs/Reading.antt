@@ -167,14 +167,13 @@ same_Some x y e = cc
 -- it stands for the header
 pub stands-header : (reader : Agreeing) (agree : Kept) (number : ℕ) (text : List ℕ) → reader.agree ≡ None
     → (local_of text ≡ Ok agree.local) × StandsFor agree [] × (agree.floor ≡ 0)
-    → ((other : List (List ℕ)) → Stands reader other → number ≡ length other + 1)
-    → (before : List (List ℕ)) → Stands reader before
+    → (before : List (List ℕ)) → Stands reader before → number ≡ length before + 1
     → Stands (record reader { agree = Some agree; last = number }) (before ++ text ∷ [])
-stands-header reader agree number text none opened counts [] stands = (
-  counts [] stands,
+stands-header reader agree number text none opened [] stands is = (
+  is,
   (agree, refl, opened.0, record { stands = opened.1; last = stands.2; floor = omega (arith, opened.2) }),
 )
-stands-header reader agree number text none opened counts (first ∷ texts) stands =
+stands-header reader agree number text none opened (first ∷ texts) stands is =
     let known = stands.1 in
     let there : Some known.0 ≡ None = sym known.1 ∙ none in
     absurd (cc)
@@ -184,21 +183,19 @@ pub stands-line : (reader : Agreeing) (old new : Kept) (number reading : ℕ) (t
     → new.local ≡ old.local
     → ((older : List Numbered) → Keeps old older reader.last reader.reading
     → Keeps new (with_line number older (line_of text)) number reading)
-    → ((other : List (List ℕ)) → Stands reader other → number ≡ length other + 1)
-    → (before : List (List ℕ)) → Stands reader before
+    → (before : List (List ℕ)) → Stands reader before → number ≡ length before + 1
     → Stands (record reader { agree = Some new; last = number; reading = reading }) (before ++ text ∷ [])
-stands-line reader old new number reading text there own goes counts [] stands =
+stands-line reader old new number reading text there own goes [] stands is =
     let none : None ≡ Some old = sym stands.1 ∙ there in
     absurd (cc)
-stands-line reader old new number reading text there own goes counts (first ∷ texts) stands =
+stands-line reader old new number reading text there own goes (first ∷ texts) stands is =
     let known = stands.1 in
     let same : known.0 ≡ old = same_Some known.0 old (sym known.1 ∙ there) in
-    let count : number ≡ length (first ∷ texts) + 1 = counts (first ∷ texts) stands in
     let kept : Keeps old (lines_in texts) reader.last reader.reading =
     subst (λ (k : Kept). Keeps k (lines_in texts) reader.last reader.reading) same known.3 in
     let lines : with_line number (lines_in texts) (line_of text) ≡ lines_in (texts ++ text ∷ []) =
-    ap (λ (n : ℕ). with_line n (lines_in texts) (line_of text)) count ∙ sym (lines_in-push first texts text) in (
-      omega (arith, count, push-length texts text),
+    ap (λ (n : ℕ). with_line n (lines_in texts) (line_of text)) is ∙ sym (lines_in-push first texts text) in (
+      omega (arith, is, push-length texts text),
       (
         new,
         refl,
@@ -206,13 +203,3 @@ stands-line reader old new number reading text there own goes counts (first ∷ 
         subst (λ (ls : List Numbered). Keeps new ls number reading) lines (goes (lines_in texts) kept),
       ),
     )
-
--- the number of the next text
-pub next-number : (reader : Agreeing) (number : ℕ) (before other : List (List ℕ)) → Stands reader before
-    → number ≡ length before + 1 → Stands reader other → number ≡ length other + 1
-next-number reader number before other stands is stood =
-    omega (arith, last reader before stands, is, last reader other stood)
-  where
-    last : (r : Agreeing) (texts : List (List ℕ)) → Stands r texts → r.last ≡ length texts
-    last r [] s = s.0
-    last r (first ∷ texts) s = s.0

@@ -206,17 +206,18 @@ script_of_lines-more before text line e =
     ∙ ap (λ r. flat_map (λ l. line_in (script_of l)) before ++ (line_in r ++ [])) e
 
 -- a reader that has kept a line more stands for one line more
-pub stands-more : {T : Type 0} (result : Result T (engine.LineFault NoLine)) (old new : ScriptLines) (text : List ℕ)
-    (line : ScriptLine) → script_of text ≡ Ok line → IsScriptLine line
+pub stands-more : {T : Type 0} (number : ℕ) (result : Result T (engine.LineFault NoLine)) (old new : ScriptLines)
+    (text : List ℕ) (line : ScriptLine) → script_of text ≡ Ok line → IsScriptLine line
     → OnOk result (new.lines.items ≡ old.lines.items ++ line ∷ [])
-    → OnOk result ((before : List (List ℕ)) → Stands old before → Stands new (before ++ text ∷ []))
-stands-more (Ok x) old new text line e range grew = λ before stood. record {
+    → OnOk result ((before : List (List ℕ)) → Stands old before → number ≡ length before + 1
+    → Stands new (before ++ text ∷ []))
+stands-more number (Ok x) old new text line e range grew = λ before stood is. record {
   lines = grew ∙ ap (λ l. l ++ line ∷ []) stood.lines ∙ sym (script_of_lines-more before text line e);
   each = subst (λ l. All IsScriptLine l) (sym grew)
       (All-append IsScriptLine old.lines.items (line ∷ []) stood.each
       (All-cons IsScriptLine line [] range (All-nil IsScriptLine)));
 }
-stands-more (Err x) old new text line e range grew = tt
+stands-more number (Err x) old new text line e range grew = tt
 
 -- a verdict says that there is no script
 pub script-bad : (bytes : List ℕ) (line : ℕ) (why : Refusal NoLine)

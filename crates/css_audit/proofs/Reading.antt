@@ -1,5 +1,5 @@
 -- The reader of a record stands for one text more.
-use Rattle.std.proofs.Common.{◌≡◌, ap, sym, subst, ◌∙◌, refl, List, [], ◌∷◌, ◌++◌}
+use Rattle.std.proofs.Common.{◌≡◌, ap, sym, subst, ◌∙◌, refl, List, [], ◌∷◌, ◌++◌, ◌+◌, length}
 use Rattle.std.specs.Prelude.{ℕ, Some, None, Result, Ok, Err, OnOk, MatchResult}
 use Rattle.std.proofs.lemmas.List.{append-nil}
 use Rattle.std.proofs.lemmas.List.Elements.{All-push}
@@ -46,14 +46,15 @@ stood reader old new text there keeps read goes (first ∷ texts) stands =
     )
 
 -- so it is where the line was taken
-pub stands-line : (reader : Auditing) (old new : Audit) (text : List ℕ)
+pub stands-line : (number : ℕ) (reader : Auditing) (old new : Audit) (text : List ℕ)
     (result : Result (Unit {0}) (engine.LineFault AuditFault)) → reader.audit ≡ Some old
     → config_of new.companion ≡ config_of old.companion → OnOk result (IsRead text)
     → OnOk result ((older : List RecordLine) → StandsFor old older → StandsFor new (with_line older (line_of text)))
-    → OnOk result ((before : List (List ℕ)) → Stands reader before
+    → OnOk result ((before : List (List ℕ)) → Stands reader before → number ≡ length before + 1
     → Stands (record reader { audit = Some new }) (before ++ text ∷ []))
-stands-line reader old new text (Ok done) there keeps read goes = stood reader old new text there keeps read goes
-stands-line reader old new text (Err fault) there keeps read goes = tt
+stands-line number reader old new text (Ok done) there keeps read goes = λ before stands is.
+    stood reader old new text there keeps read goes before stands
+stands-line number reader old new text (Err fault) there keeps read goes = tt
 
 -- what is meant of a line is its verdict after those before it
 meant-is : (read : Result CompanionConfig schedule.LineFault) (audit : Audit) (older : List RecordLine)

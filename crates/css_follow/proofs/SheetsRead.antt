@@ -1,5 +1,5 @@
 -- The sheet of lines that are read one after another, and of all bytes.
-use Rattle.std.proofs.Common.{◌≡◌, ℕ, Bool, true, false, cond, List, [], ◌∷◌, ◌++◌}
+use Rattle.std.proofs.Common.{◌≡◌, ℕ, Bool, true, false, cond, List, [], ◌∷◌, ◌++◌, ◌+◌, length}
 use Rattle.std.proofs.Common.{ap, refl, sym, ◌∙◌, append-nil, inl, inr}
 use Rattle.std.specs.Prelude.{◌⊎◌, Option, Some, None, is_none, Result, Ok, Err, OnOk}
 use Rattle.std.specs.List.{flat_map}
@@ -63,15 +63,17 @@ chosen true x y fault e = (refl, cc)
 chosen false x y fault e = absurd (cc)
 
 -- a sheet that a line was added to is that of one more line
-pub stands-more : {T : Type 0} (result : Result T (LineFault Form)) (old new : Sheet) (line : SheetLine) (text : List ℕ)
+pub stands-more : {T : Type 0} (number : ℕ) (result : Result T (LineFault Form)) (old new : Sheet) (line : SheetLine)
+    (text : List ℕ)
     → line_of text ≡ Ok line → LeavesBy lacks.Memory result old new (with_line old line)
-    → OnOk result ((before : List (List ℕ)) → old ≡ sheet_of before → new ≡ sheet_of (before ++ text ∷ []))
-stands-more (Ok x) old new line text e leaves =
+    → OnOk result ((before : List (List ℕ)) → old ≡ sheet_of before → number ≡ length before + 1
+    → new ≡ sheet_of (before ++ text ∷ []))
+stands-more number (Ok x) old new line text e leaves =
     let c = chosen (has_room old line) (grown old line) new (lacks.Refused (record {})) leaves in
-    λ before stood.
+    λ before stood is.
     sym c.1 ∙ ap (λ s. grown s line) stood
     ∙ sym (sheet_of-more before text line e (sym (ap (λ s. has_room s line) stood) ∙ c.0))
-stands-more (Err x) old new line text e leaves = tt
+stands-more number (Err x) old new line text e leaves = tt
 
 -- ---- all bytes
 -- the sheet of all lines, where none is refused

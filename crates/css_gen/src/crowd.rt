@@ -1,5 +1,4 @@
 ghost use Rattle.std.specs.Prelude.{◌≡◌, ◌≤◌, ◌<◌, ◌-◌, ◌^◌, min, length, IfOk, OnOk, OnErr};
-ghost use Rattle.css_schedule.specs.Owners.{is_own};
 ghost use Rattle.css_printed.specs.Printed as printed;
 ghost use Rattle.css_gen.specs.Crowd as crowds;
 ghost use Rattle.css_gen.specs.Bounds.{CanHappen};
@@ -37,25 +36,11 @@ struct Turn {
     course: Course,
 }
 
-/// A line that the companion takes part in is its own. The others give no companion's clock.
-fn is_own(verb: &Verb) -> bool
-    ensures { result ≡ is_own verb.now }
-{
-    !matches!(
-        verb,
-        Verb::Take { .. }
-            | Verb::Give { .. }
-            | Verb::Programme { .. }
-            | Verb::Timeline { .. }
-            | Verb::Viewer { .. }
-    )
-}
-
 /// The line at which this happens, by the clocks of the turn.
 fn line_at(t: u64, w: u64, who: u32, l: u64, verb: Verb) -> Line
     ensures { result ≡ crowds.line_at t w who l verb }
 {
-    let own = is_own(&verb);
+    let own = verb.is_own();
     Line {
         t,
         w,

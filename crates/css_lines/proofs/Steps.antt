@@ -215,7 +215,7 @@ module _ {L Cause : Type 0} (meaning : Meaning Cause) (stands : L → List (List
       (result : Result T (Stop Cause))
       → is_feed b ≡ true → pending.count < meaning.longest_input (whole_lines read)
       → TakesLine (meaning.line (whole_lines read) pending.text.items) (pending.taken + 1) holds holds' result
-      → MatchResult result (λ _. (before : List (List ℕ)) → stands lines before
+      → MatchResult result (λ _. (before : List (List ℕ)) → stands lines before → pending.taken ≡ length before
       → stands lines' (before ++ pending.text.items ∷ [])) (λ _. Unit {0})
       → MatchResult result (λ _. pending'.text.items ≡ []) (λ _. Unit {0})
       → MatchResult result (λ _. pending'.taken ≡ pending.taken + 1) (λ _. Unit {0})
@@ -228,7 +228,7 @@ module _ {L Cause : Type 0} (meaning : Meaning Cause) (stands : L → List (List
       let push = length-append (whole_lines read) (last_part read ∷ []) in
       record {
         stood = subst (stands lines') (ap (λ l. whole_lines read ++ l ∷ []) p.text
-            ∙ sym more) (stood (whole_lines read) p.stood);
+            ∙ sym more) (stood (whole_lines read) p.stood p.taken);
         text = text ∙ sym none;
         short = rw none (omega arith);
         within = λ some. absurd (omega (arith, ap length none));
@@ -294,7 +294,7 @@ module _ {L Cause : Type 0} (meaning : Meaning Cause) (stands : L → List (List
       (result : Result T (Stop Cause))
       → 0 < length pending.text.items
       → TakesLine (meaning.line (whole_lines read) pending.text.items) (pending.taken + 1) holds holds' result
-      → MatchResult result (λ _. (before : List (List ℕ)) → stands lines before
+      → MatchResult result (λ _. (before : List (List ℕ)) → stands lines before → pending.taken ≡ length before
       → stands lines' (before ++ pending.text.items ∷ [])) (λ _. Unit {0})
       → MatchResult result (λ _. pending'.taken ≡ pending.taken + 1) (λ _. Unit {0})
       → MatchResult result
@@ -306,7 +306,7 @@ module _ {L Cause : Type 0} (meaning : Meaning Cause) (stands : L → List (List
       let finish = finish_outcome meaning (whole_lines read ++ last_part read ∷ []) in
       record {
         stood = subst (stands lines') (ap (λ l. whole_lines read ++ l ∷ []) p.text
-            ∙ sym all) (stood (whole_lines read) p.stood);
+            ∙ sym all) (stood (whole_lines read) p.stood p.taken);
         taken = omega (arith, p.taken, ap length all, length-append (whole_lines read) (last_part read ∷ []));
         printed = p.printed ++ takes.front;
         grew = appends_more start holds holds' p.printed takes.front p.grew takes.grew;

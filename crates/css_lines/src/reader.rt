@@ -51,7 +51,7 @@ pub trait Lines {
         requires { (before : List (List ℕ)) × stands self.old before × (number ≡ length before + 1) }
         ensures answers { (before : List (List ℕ)) → stands self.old before → number ≡ length before + 1
             → Answers (meaning.line before text.now) out.old.items out.new.items result }
-        ensures stands { OnOk result ((before : List (List ℕ)) → stands self.old before
+        ensures stands { OnOk result ((before : List (List ℕ)) → stands self.old before → number ≡ length before + 1
             → stands self.new (before ++ text.now ∷ [])) };
 
     /// Learns that no line follows, and adds to `out` what is printed then. It stands for the same lines as before.

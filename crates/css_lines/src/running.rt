@@ -29,7 +29,7 @@ fn take_line<K: Sink, L: Lines>(
         TakesLine (L.meaning.line before pending.old.text.items) (pending.old.taken + 1) (K.holds sink.old)
         (K.holds sink.new) result }
     ensures stands { OnOk result ((before : List (List ℕ)) → L.stands lines.old before
-        → L.stands lines.new (before ++ pending.old.text.items ∷ [])) }
+        → pending.old.taken ≡ length before → L.stands lines.new (before ++ pending.old.text.items ∷ [])) }
     ensures text { OnOk result (pending.new.text.items ≡ []) }
     ensures number { OnOk result (pending.new.taken ≡ pending.old.taken + 1) }
     ensures count { OnOk result (pending.new.count ≡ pending.old.count) }

@@ -76,10 +76,9 @@ IsAt None None version companions extent = (extent ≡ Outset) × (version ≡ 1
 abbrev pub StandsAt : Replay → Extent → Type 0
 StandsAt replay extent = IsAt replay.header replay.world replay.version replay.companions extent
 
--- The reader stands for these texts: it knows how many they are, and has read them.
-pub record Stands (replay : Replay) (texts : List (List ℕ)) : Type 0 where
-  pub last : replay.last ≡ length texts
-  pub at : StandsAt replay (reached texts)
+-- the reader stands for these texts
+abbrev pub Stands : Replay → List (List ℕ) → Type 0
+Stands replay texts = StandsAt replay (reached texts)
 
 -- ---- calls
 -- one text more of the header was read, and this holds of how far that is, or it was told why it is none

@@ -32,8 +32,6 @@ pub struct Replay {
     header: Option<Header>,
     /// The world that carries out the lines after the header.
     world: Option<World>,
-    /// The number of the last line that was taken.
-    last: u64,
 }
 
 // What the engine is told of a line that was not read.
@@ -75,7 +73,6 @@ impl Replay {
             companions: 0,
             header: None,
             world: None,
-            last: 0,
         }
     }
 
@@ -85,7 +82,7 @@ impl Replay {
         requires none { self.old.world ≡ None }
         ensures reads { (extent : Extent) → StandsAt self.old extent → ReadsOn extent text.now result
             (λ next header. (next ≡ stage_of header self.new) × (self.new.version ≡ version_of next)) }
-        ensures kept { (self.new.world ≡ self.old.world) × (self.new.last ≡ self.old.last) }
+        ensures kept { self.new.world ≡ self.old.world }
     {
         let Some(mut header) = self.header.take() else {
             return match read_header(self.alloc, text)? {
@@ -112,9 +109,8 @@ impl Replay {
     fn open(&mut self, text: &[u8]) -> Result<(), LineFault>
         requires well { (number : ℕ) × (extent : Extent) × StandsAt self.old extent × IsWell number extent }
         requires none { self.old.world ≡ None }
-        ensures reads { (extent : Extent) → StandsAt self.old extent
+        ensures { (extent : Extent) → StandsAt self.old extent
             → ReadsOn extent text.now result (λ next done. StandsAt self.new next) }
-        ensures last { self.new.last ≡ self.old.last }
     {
         let header = self.read_on(text)?;
         if header.companions.list().len() == self.companions as usize {
@@ -154,7 +150,6 @@ impl Lines for Replay {
         text: &[u8],
         out: &mut Vec<u8>,
     ) -> Result<(), css_lines::LineFault<Cause>> {
-        self.last = number;
         let Some(world) = &mut self.world else {
             return match self.open(text) {
                 Ok(()) => Ok(()),

@@ -1,3 +1,6 @@
+ghost use Rattle.std.specs.Prelude.{◌≡◌};
+ghost use Rattle.css_schedule.specs.Owners.{is_own};
+
 use css_num::{Kind, Rate, Text};
 use css_player::Command;
 use css_tsmsg::Bound;
@@ -72,6 +75,22 @@ pub enum Verb {
     },
     /// The companion slept, and wakes up. Version 1 has no such line.
     Sleep,
+}
+
+impl Verb {
+    /// Whether a companion takes part in it. The line of any other gives no companion's clock.
+    pub fn is_own(&self) -> bool
+        ensures { result ≡ is_own self.now }
+    {
+        !matches!(
+            self,
+            Verb::Take { .. }
+                | Verb::Give { .. }
+                | Verb::Programme { .. }
+                | Verb::Timeline { .. }
+                | Verb::Viewer { .. }
+        )
+    }
 }
 
 /// A line of a schedule after the header. Its times are nanoseconds below 2^32 seconds.

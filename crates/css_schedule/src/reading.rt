@@ -2,7 +2,7 @@ ghost use Rattle.std.specs.Prelude.{◌≡◌, ◌<◌, ◌^◌, ◌==◌, IfOk}
 ghost use Rattle.css_num.specs.Gives.{GivesBy};
 ghost use Rattle.css_schedule.specs.Words.{words_left, Reads};
 ghost use Rattle.css_schedule.specs.Lines as lines;
-ghost use Rattle.css_schedule.specs.Owners.{is_own, is_named};
+ghost use Rattle.css_schedule.specs.Owners.{is_named};
 ghost use Rattle.css_schedule.specs.Ranges.{IsVersion, IsLine, IsOf, IsScriptLine};
 ghost use Rattle.css_schedule.specs.declared.fault.LineFault.TheVariants as faults;
 
@@ -242,22 +242,11 @@ fn verb<'a>(alloc: Global, words: Words<'a>, first: bool) -> Result<(Verb, Words
     named(alloc, name, rest, first)
 }
 
-// Whether a companion takes part in it.
-fn is_own(verb: &Verb) -> bool
-    ensures { result ≡ is_own verb.now }
-{
-    match verb {
-        Verb::Take { .. } | Verb::Give { .. } => false,
-        Verb::Programme { .. } | Verb::Timeline { .. } | Verb::Viewer { .. } => false,
-        _ => true,
-    }
-}
-
 // Whether a line of version 2 may have this number and this clock of a companion.
 fn is_named(who: u32, l: u64, verb: &Verb) -> bool
     ensures { result ≡ is_named who l verb.now }
 {
-    who != 0 || l == 0 && !is_own(verb)
+    who != 0 || l == 0 && !verb.is_own()
 }
 
 // The number of a line's companion. In version 1 there is only one, and no word for it.

@@ -8,5 +8,5 @@ returns-in-Some-clause-answers c = λ before stands number.
 
 pub returns-in-Some-clause-stands : goal.returns-in-Some-clause-stands
 returns-in-Some-clause-stands c =
-    stands-line c.args.self.now c.in-Some.audit c.take_line.new.audit c.args.text.now c.take_line.result c.in-Some.is
+    stands-line _ c.args.self.now c.in-Some.audit c.take_line.new.audit c.args.text.now c.take_line.result c.in-Some.is
     c.take_line.ensures.keeps c.take_line.ensures.read c.take_line.ensures.stands
