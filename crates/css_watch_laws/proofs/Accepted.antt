@@ -1,22 +1,20 @@
 -- Which answers a visit holds together.
-use Rattle.std.proofs.Common.{◌≡◌, ◌∙◌, ◌≤◌, ℕ, ap, sym, subst, refl, List, [], ◌∷◌, ◌++◌, Bool, true, false, cond, All}
+use Rattle.std.proofs.Common.{◌≡◌, ◌∙◌, ℕ, ap, sym, refl, List, [], ◌∷◌, Bool, true, false, cond}
 use Rattle.std.proofs.Common.{Option, Some, None, Result, Ok, Err, length}
 use Rattle.std.specs.Prelude.{◌+◌, ◌==◌}
-use Rattle.std.specs.Option.{option_map, option_to_list}
+use Rattle.std.specs.Option.{option_map}
 use Rattle.css_client.proofs.Judging as judging
-use Rattle.css_client.specs.Landings.{judged_by, judged_of, awaited_if, with_judged}
-use Rattle.css_client.specs.declared.landing.Landing.{Landing}
+use Rattle.css_client.specs.Landings.{judged_by, awaited_if, with_judged}
 use Rattle.css_client.specs.declared.landing.Landing.TheVariants as landings
 use Rattle.css_drive.specs.CompanionReports.{is_due, report_at, due_reports}
 use Rattle.css_drive.specs.CompanionTurns.{first_turn, turn_at}
 use Rattle.css_drive.specs.Notes as notes
 use Rattle.css_drive.specs.Notes.{Event, Note, Reported, Standpoint, asking, event_of, landing, noted, session_at}
 use Rattle.css_drive.specs.Notes.{standpoint, with_event, with_report}
-use Rattle.css_drive.specs.declared.config.DriveConfig.{DriveConfig}
 use Rattle.css_drive.specs.declared.session.Session.{Session}
 use Rattle.css_model.specs.History as entries
 use Rattle.css_model.specs.History.{Clock, Entry, History, Slept, Took, accepted_answers, is_asked}
-use Rattle.css_model.specs.WallClock.{Answer, Local}
+use Rattle.css_model.specs.WallClock.{Local}
 use Rattle.css_model.specs.Wire.{decoded}
 use Rattle.css_model.specs.declared.Message.{Message}
 use Rattle.css_model.specs.declared.WcFault.{WcFault}

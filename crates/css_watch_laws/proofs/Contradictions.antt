@@ -1,27 +1,23 @@
 -- A visit that ends by a disagreement has answers that can't all be true.
-use Rattle.std.proofs.Common.{◌≡◌, ◌∙◌, ◌≤◌, ℕ, ap, sym, subst, refl, List, [], ◌∷◌, ◌++◌, Bool, true, false, cond, All}
+use Rattle.std.proofs.Common.{◌≡◌, ◌≤◌, ℕ, sym, subst, refl, List, [], ◌∷◌, ◌++◌, Bool, true, false, cond, All}
 use Rattle.std.proofs.Common.{Option, Some, None, Result, Ok, Err}
 use Rattle.std.proofs.lemmas.List.Elements.{All-cons, All-head, All-tail, All-nil}
 use Rattle.std.specs.Option.{option_to_list}
 use Rattle.css_agree.proofs.Disagreements.{disagreement_is_false}
-use Rattle.css_agree.specs.Agreements.{DeclareInRange, IsTruthful}
+use Rattle.css_agree.specs.Agreements.{DeclareInRange}
 use Rattle.css_agree.specs.Disagreements.{disagree}
 use Rattle.css_client.proofs.Judging.{landings_are_judged}
 use Rattle.css_client.specs.Landings.{judged_of, with_judged}
 use Rattle.css_client.specs.declared.landing.Landing.{Landing}
-use Rattle.css_drive.specs.Notes.{Landed}
 use Rattle.css_model.proofs.Landings.{landed_answer-is}
 use Rattle.css_model.specs.History.{Clock, Entry, History, LandedAnswer, Took, accepted_answers, is_possible, is_sleep}
 use Rattle.css_model.specs.History.{landed_answer, landed_answers, possible_answer, possible_answers, times_of}
 use Rattle.css_model.specs.Numbers.{max_error}
 use Rattle.css_model.specs.WallClock.{Answer, Local}
-use Rattle.css_model.specs.World.{Errors, IsWorldFor, Reads, World}
 use Rattle.css_model.specs.declared.Why.TheVariants as why
 use Rattle.css_span.specs.Frontiers.{Answers}
-use Rattle.css_watch.specs.Telling.{parting_at, parting_by}
+use Rattle.css_watch.specs.Telling.{parting_at}
 use Rattle.css_watch.specs.declared.parting.Parting.TheVariants as parting
-use Rattle.css_watch.specs.declared.plan.Plan.{Plan}
-use Rattle.css_watch.specs.declared.progress.Progress.{Progress}
 use Rattle.css_watch_laws.specs.Promises.{DisagreementsAreFalse}
 
 -- ---- what answers declare

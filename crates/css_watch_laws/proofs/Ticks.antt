@@ -1,5 +1,5 @@
 -- What the lines of reports with ticks tell.
-use Rattle.std.proofs.Common.{◌≡◌, ◌∙◌, ap, sym, subst, refl, ℕ, List, Option, Some, None, Result, Ok, Err}
+use Rattle.std.proofs.Common.{◌≡◌, ap, subst, ℕ, Option, Some, None, Result, Ok, Err}
 use Rattle.css_companion.proofs.Headline as proved
 use Rattle.css_companion.specs.Headline.{IsPromised}
 use Rattle.css_companion.specs.declared.knowledge.Timing.{Timing}
@@ -8,15 +8,13 @@ use Rattle.css_companion.specs.declared.report.Report.{Report}
 use Rattle.css_companion.specs.declared.report.Report.TheVariants as report
 use Rattle.css_drive.specs.CompanionReports.{report_at}
 use Rattle.css_model.specs.Explains.{IsLawful}
-use Rattle.css_model.specs.History.{History, accepted_answers, wall_answer}
+use Rattle.css_model.specs.History.{History}
 use Rattle.css_model.specs.WallClock.{Answer}
 use Rattle.css_num.specs.Spans.{Interval}
-use Rattle.css_companion.specs.Meanings.{timing_after}
-use Rattle.css_span.specs.WallSpans.{wall_span}
 use Rattle.css_watch.specs.Telling.{report_line, said_of, with_ticks}
 use Rattle.css_watch.specs.declared.plan.Plan.{Plan}
 use Rattle.css_watch.specs.declared.progress.Progress.{Progress}
-use Rattle.css_watch_lines.specs.Lines.{Known, Line}
+use Rattle.css_watch_lines.specs.Lines.{Known}
 use Rattle.css_watch_lines.specs.declared.known.Known.{Known as Ticking}
 use Rattle.css_watch_lines.specs.declared.known.Ticks.{Ticks}
 
