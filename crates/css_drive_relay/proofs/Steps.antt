@@ -2,7 +2,7 @@
 -- answers and sessions make of it, and how it ends.
 use Rattle.std.proofs.Common.{◌≡◌, ℕ, ◌≤◌, ◌<◌, arith, ap, ◌∙◌, refl, Bool, true, false, cond, List, [], ◌∷◌, ◌++◌}
 use Rattle.std.proofs.Common.{Option, Some, None, ◌+◌, sym, subst, ◌||◌, inl, inr, Result, Ok, ap₂, Err}
-use Rattle.std.specs.Prelude.{All, ◌==◌, not, is_some, ◌⊎◌, unwrap_or, MatchResult, ◌&&◌, IfSome, length}
+use Rattle.std.specs.Prelude.{All, ◌==◌, ◌≢◌, not, is_some, ◌⊎◌, unwrap_or, MatchResult, ◌&&◌, IfSome, length}
 use Rattle.std.specs.Option.{option_or, option_map}
 use Rattle.std.proofs.lemmas.Bool.{ne_eqb, eq-eqb, cond_both}
 use Rattle.std.proofs.lemmas.Option.{IfSome_then}
@@ -10,29 +10,31 @@ use Rattle.css_model.specs.declared.Message.{Message}
 use Rattle.std.proofs.lemmas.List.Elements.{All-nil, All-filter, All-head, All-cons, All-append, All-weaker}
 use Rattle.std.proofs.lemmas.Bool.Decides.{nat_tests}
 use Rattle.css_model.specs.declared.Kind.{Kind}
-use Rattle.css_model.specs.History.{Dialled, Accepted, History, Entry, Slept, Clock, is_sleep, asking_at, request_by}
-use Rattle.css_model.specs.History.{landed_answer, Address, Dialling, NotDialled, HungUp, Listening, Closed, Gone}
-use Rattle.css_model.specs.History.{Heard, Sent, request_in, NoneCame}
-use Rattle.css_companion.specs.Meanings.{kind_of, cii_text, ts_text, opens_ts, closes_ts, is_cii, is_ts, state_of}
+use Rattle.css_model.specs.History.{Dialled, Accepted, History, Entry, Slept, Clock, Address, Dialling, NotDialled}
+use Rattle.css_model.specs.History.{HungUp, Listening, Closed, Gone, Heard, Sent, request_in, NoneCame}
+use Rattle.css_companion.specs.Meanings.{kind_of, opens_ts, is_cii, is_ts, state_of}
 use Rattle.css_drive.specs.TvRan.{AreBelow, AreNumbered}
-use Rattle.css_drive_relay.specs.Places.{Facts, Progress, next_asked, telling, telling_if, without, Place}
-use Rattle.css_drive_relay.specs.Places.{after, progress_of, Begun, Called, after_dial, after_clock, Asked, Over}
-use Rattle.css_drive_relay.specs.Places.{all_open, without_first, hung_up, beginning, with_turn, Taken, Received}
-use Rattle.css_drive_relay.specs.Places.{Served, received, answering, Welcomed, welcomed, published, television_told}
-use Rattle.css_drive_relay.specs.Places.{is_kept, opened_if, Asking}
+use Rattle.css_drive_relay.specs.Places.{Facts, Progress, next_asked, telling, telling_if, without, Place, after}
+use Rattle.css_drive_relay.specs.Places.{progress_of, Begun, Called, after_dial, after_clock, Asked, Over, all_open}
+use Rattle.css_drive_relay.specs.Places.{without_first, hung_up, beginning, with_turn, Taken, Received, Served}
+use Rattle.css_drive_relay.specs.Places.{received, answering, Welcomed, welcomed, published, television_told, is_kept}
+use Rattle.css_drive_relay.specs.Places.{opened_if, Asking}
 use Rattle.css_drive_relay.specs.Standing.{AreInOrder, KnowsPeers, named, Knows, Runs, Stops, HasRead, facts_in, stood}
-use Rattle.css_drive_relay.specs.Standing.{IsCounted, Stands, IsAt, HangsUp, Keeps, Came, visiting}
+use Rattle.css_drive_relay.specs.Standing.{Stands, IsAt, HangsUp, Keeps, Came, visiting}
 use Rattle.css_model.specs.declared.Why.{Why}
 use Rattle.css_model.specs.Explains.{IsLawful}
 use Rattle.css_outside.specs.Outsides.{Counts, with_entries, clock_entries, sleep_entries}
 use Rattle.css_outside.specs.declared.calls.Clocked.{Clocked}
+use Rattle.css_relay.specs.Lending.{with_companion}
 use Rattle.css_relay.specs.Relays.{Relay, relayed_state}
-use Rattle.css_drive.specs.CompanionStanding.{Shown, Adds, Fails, asked_after, HasDialled, IsCut, dial_entries}
-use Rattle.css_drive.specs.CompanionStanding.{IsRefusal}
-use Rattle.css_drive.specs.Ends.{MayEnd, IsNetFault, CountsNetFault, CountsDialFaults}
+use Rattle.css_drive.specs.CompanionStanding as companions
+use Rattle.css_drive.specs.CompanionStanding.{Shown, Adds, Fails, asked_after, HasDialled, IsEarly, dial_entries}
+use Rattle.css_drive.specs.CompanionStanding.{IsEndBy, IsRefusal}
+use Rattle.css_drive.specs.Ends.{MayEnd, CountsNetFault, CountsDialFaults}
 use Rattle.css_drive.specs.Proper.{Due, Now, MayAdd, More, Dial, Ends, Empty, TakeDatagram}
 use Rattle.css_drive.specs.declared.driven.Driven.{Driven}
-use Rattle.css_drive.proofs.CompanionSteps.{told_more, counts_same, fault_ends, own_quiet}
+use Rattle.css_drive.proofs.CompanionSteps.{told_more, counts_same, fault_ends, own_quiet, IsOwn, knows_plain}
+use Rattle.css_drive.proofs.CompanionSteps.{knows_tried, lawful_plain, refusal_ends, refusal_own}
 use Rattle.css_drive_relay.specs.Ran.{CountsRelayRun}
 use Rattle.css_drive_relay.specs.Due.{due, due_at, due_for, final, from_hang_ups, from_taken, from_ask}
 use Rattle.css_drive_relay.specs.declared.live.Live.{Live}
@@ -42,21 +44,20 @@ use Rattle.css_drive.specs.CompanionDue.{place, refusal_of, end_by}
 use Rattle.css_cii.specs.declared.state.State.{State}
 use Rattle.css_outside.specs.Faults.{HasRisen}
 use Rattle.css_drive.specs.CompanionTurns.{goes_on, is_late, is_asking}
-use Rattle.css_drive.proofs.CompanionEnds.{never_late}
-use Rattle.css_drive.proofs.CompanionEnds.{no_entries}
+use Rattle.css_drive.proofs.CompanionEnds.{early_dials, never_late, no_entries}
 use Rattle.css_outside.specs.Limits.{IsLimit, most_turns}
 use Rattle.css_outside.specs.declared.limit.Limit.{Limit}
 use Rattle.css_outside.specs.declared.limit.Limit.TheVariants.{Turns, Seconds}
 use Rattle.css_model.specs.WallClock.{Local}
-use Rattle.css_companion.specs.Standing.{StandsFor, own_of}
+use Rattle.css_companion.specs.Standing.{Companion, StandsFor, own_of}
+use Rattle.css_companion.specs.declared.config.CompanionConfig.{CompanionConfig}
+use Rattle.css_drive.specs.declared.companion_live.Live.{Live as Own}
 use Rattle.css_relay.specs.Answers.{Ticket, received_after, answered_after, datagram_of}
 use Rattle.css_relay.specs.declared.fault.RelayFault.{RelayFault}
-use Rattle.css_drive.proofs.CompanionSteps.{lawful_plain, refusal_ends, refusal_own}
 use Rattle.css_sessions.specs.Kept.{difference_text}
 use Rattle.css_companion.specs.declared.fault.CompanionFault.{CompanionFault}
 use Rattle.css_drive_relay.specs.Told.{relayed}
 use Rattle.css_model.specs.declared.Kind.TheVariants as kind
-use Rattle.css_companion.proofs.Telling as telling
 use Rattle.css_drive.specs.declared.driven.Driven.TheVariants as driven
 use Rattle.css_model.specs.declared.Why.TheVariants as why
 use Rattle.css_drive_relay.specs.Places as places
@@ -84,8 +85,7 @@ pub unused : (n : ℕ) (h : History) (peer : ℕ) → AreInOrder n h → n ≤ p
 unused n [] peer o le = refl
 unused n (Dialled k q ∷ older) peer o le =
     let lt = o.0 in
-    ap (λ b. option_or (cond b (Some k) None) (kind_of peer older)) (ne_eqb q peer (λ e. omega (arith, lt, le, e)))
-    ∙ unused q older peer o.1 (omega (arith, lt, le))
+    let none = unused q older peer o.1 (omega (arith, lt, le)) in grind (arith, nat_tests, lt, le, none)
 unused n (Accepted q k ∷ older) peer o le = let lt = o.0 in unused q older peer o.1 (omega (arith, lt, le))
 unused n (_ ∷ older) peer o le = unused n older peer o le
 
@@ -95,12 +95,7 @@ pub undialled : (n : ℕ) (h : History) (peer : ℕ) → AreInOrder n h → Came
 undialled n [] peer o c = absurd c
 undialled n (Dialled k q ∷ older) peer o c =
     let lt = o.0 in
-    let x = undialled q older peer o.1 c in
-    let less = x.0 in (
-      omega (arith, lt, less),
-      ap (λ b. option_or (cond b (Some k) None) (kind_of peer older)) (ne_eqb q peer (λ e. omega (arith, less, e)))
-          ∙ x.1,
-    )
+    let x = undialled q older peer o.1 c in grind (arith, nat_tests, lt, x)
 undialled n (Accepted q k ∷ older) peer o (inl e) =
     let lt = o.0 in (omega (arith, lt, e), unused q older peer o.1 (omega (arith, e)))
 undialled n (Accepted q k ∷ older) peer o (inr c) =
@@ -112,16 +107,13 @@ undialled n (_ ∷ older) peer o c = undialled n older peer o c
 -- ---- sessions that places name
 module _ (P : ℕ → Type 0) where
   pub all_next : (o : Option ℕ) (peers : List ℕ) → All P peers → All P (named (next_asked o peers))
-  all_next None peers all = all
-  all_next (Some p) peers all = All-nil P
+  all_next o peers all = let none = All-nil P in grind (arith, all, none)
 
   pub all_telling : (text left : List ℕ) (f : Facts) → All P left → All P f.peers → All P (named (telling text left f))
-  all_telling text [] f all peers = peers
-  all_telling text (p ∷ ps) f all peers = all
+  all_telling text left f all peers = grind (arith, all, peers)
 
   pub all_telling_if : (text : Option (List ℕ)) (f : Facts) → All P f.peers → All P (named (telling_if text f))
-  all_telling_if None f peers = peers
-  all_telling_if (Some text) f peers = all_telling text f.peers f peers peers
+  all_telling_if text f peers = grind (arith, peers)
 
   pub all_without : (peer : ℕ) (peers : List ℕ) → All P peers → All P (without peer peers)
   all_without peer = All-filter (λ other. not (other == peer)) P
@@ -133,24 +125,8 @@ unnamed history place e x =
     (x.0, subst (λ (xs : List ℕ). All (Came history) xs) (sym e) (All-nil (Came history)), x.2)
 
 -- ---- what the relay knows
--- an entry that tells it nothing
-pub knows_plain : {run : RelayRun} {relay : Relay} {history : History} → Knows run relay history → (entry : Entry)
-    → is_sleep entry ≡ false → asking_at entry ≡ None → request_by entry ≡ None → landed_answer entry history ≡ None
-    → cii_text entry history ≡ None → ts_text entry history ≡ None
-    → (opens_ts entry || closes_ts entry history) ≡ false → Knows run relay (entry ∷ history)
-knows_plain {run} {relay} {history} k entry awake asks sends lands cii ts end = record {
-  stands = telling.stands_aside relay.companion history entry k.stands (record {
-    client = record { awake = awake; asks_none = asks; sends_none = sends; lands_none = lands };
-    no_cii = cii;
-    no_ts = ts;
-    no_edge = end;
-  });
-  own = k.own;
-  wc_url = k.wc_url;
-}
-
 pub lawful : {run : RelayRun} {relay : Relay} {history : History} → Knows run relay history → IsLawful history
-lawful k = k.stands.client.lawful
+lawful k = k.companion.stands.client.lawful
 
 -- entries that tell it nothing, and bring no peer
 abbrev pub IsAside : History → Entry → Type 0
@@ -166,26 +142,40 @@ IsAside h (Gone peer) = is_ts (kind_of peer h) ≡ false
 IsAside h _ = Unit {0}
 
 module _ {run : RelayRun} {relay : Relay} {history : History} (k : Knows run relay history) where
+  -- what its companion learns
+  pub learns : {is : Companion} {later : History} → ((own : CompanionConfig)
+      → companions.Knows own relay.companion history → companions.Knows own is later)
+      → Knows run (with_companion relay is) later
+  learns learn = record { companion = learn run.companion k.companion; wc_url = k.wc_url }
+
   pub aside : (entry : Entry) → IsAside history entry → Knows run relay (entry ∷ history)
-  aside Slept is = absurd is
-  aside (Clock why.Ask reading) is = absurd is
-  aside (Clock why.Land reading) is = absurd is
-  aside (Dialled kind peer) is = absurd is
-  aside (Accepted peer kind) is = absurd is
-  aside (Sent peer bytes) is =
-      knows_plain k (Sent peer bytes) refl refl
-      (ap (λ (o : Option Message). option_map (λ message. message.originate) o) is) refl refl refl refl
-  aside (Heard peer bytes) is =
-      knows_plain k (Heard peer bytes) refl refl refl refl (ap (λ o. cond (is_cii o) (Some bytes) None) is)
-      (ap (λ o. cond (is_ts o) (Some bytes) None) is) refl
-  aside (Closed peer) is = knows_plain k (Closed peer) refl refl refl refl refl refl is
-  aside (Gone peer) is = knows_plain k (Gone peer) refl refl refl refl refl refl is
-  aside entry is = knows_plain k entry refl refl refl refl refl refl refl
+  aside entry is = record { companion = by entry is; wc_url = k.wc_url }
+    where
+      by : (entry : Entry) → IsAside history entry → companions.Knows run.companion relay.companion (entry ∷ history)
+      by Slept is = absurd is
+      by (Clock why.Ask reading) is = absurd is
+      by (Clock why.Land reading) is = absurd is
+      by (Dialled kind peer) is = absurd is
+      by (Accepted peer kind) is = absurd is
+      by (Sent peer bytes) is =
+          knows_plain (Sent peer bytes) k.companion refl refl
+          (ap (λ (o : Option Message). option_map (λ message. message.originate) o) is) refl refl refl refl
+      by (Heard peer bytes) is =
+          knows_plain (Heard peer bytes) k.companion refl refl refl refl
+          (ap (λ o. cond (is_cii o) (Some bytes) None) is) (ap (λ o. cond (is_ts o) (Some bytes) None) is) refl
+      by (Closed peer) is = knows_plain (Closed peer) k.companion refl refl refl refl refl refl is
+      by (Gone peer) is = knows_plain (Gone peer) k.companion refl refl refl refl refl refl is
+      by entry is = knows_plain entry k.companion refl refl refl refl refl refl refl
+
+pub knows_read : {now next : Shown} {live later : Live} {w : Why} {clocked : Clocked} {run : RelayRun} {h : History}
+    → HasRead now next live later w clocked → Knows run live.relay h
+    → Knows run later.relay (sleep_entries clocked.slept ++ h)
+knows_read {later = later} {clocked = clocked} {run} {h} r k =
+    subst (λ (x : Live). Knows run x.relay (sleep_entries clocked.slept ++ h)) (sym r.rest)
+    (learns k (λ own. r.read.known own h))
 
 still : (n : ℕ) (h : History) (entry : Entry) → IsAside h entry → AreInOrder n h → AreInOrder n (entry ∷ h)
-still n h (Dialled k peer) is o = absurd is
-still n h (Accepted peer k) is o = absurd is
-still n h entry is o = o
+still n h entry is o = grind (arith, is, o)
 
 -- ---- a fault
 -- a call of the outside failed, so the run ends
@@ -203,7 +193,11 @@ stops_by_fault {run} {start} {now} {next} {history = history} {ended} s l f =
         ends = fault_ends (due run history) ended f.end;
       };
       counted = subst P s.faults f.counted;
+      quiet = fault_quiet ended f.end;
     }
+  where
+    fault_quiet : (ended : Driven) → IsEndBy None ended → ended ≢ driven.WriteFault
+    fault_quiet ended f e = grind (arith, f, e)
 
 -- ---- a call that is due
 -- the run came to this history, and at this place to what follows there
@@ -279,6 +273,13 @@ module _ {run : RelayRun} {start now : Shown} {relay : Relay} {p : Progress} {hi
   made next (Err ended) f = stops_by_fault s.runs (lawful s.knows) f
 
 -- ---- the clock
+pub read_facts : {now next : Shown} {live later : Live} {w : Why} {clocked : Clocked}
+    → HasRead now next live later w clocked
+    → facts_in later ≡ record (facts_in live) { asked = asked_after clocked.slept live.own.asked }
+read_facts {live = live} {later} {clocked = clocked} r =
+    ap (λ x. facts_in x) r.rest
+    ∙ ap {A = Own} {B = Facts} (λ x. facts_in (record live { own = x; relay = later.relay })) r.read.only
+
 module _ {run : RelayRun} {start now next : Shown} {live later : Live} {place : Place} {history : History} {w : Why}
     {clocked : Clocked} where
   pub runs_read : Runs run start now (stood live place) history → due_at run (facts_in live) history place ≡ Now w
@@ -287,9 +288,10 @@ module _ {run : RelayRun} {start now next : Shown} {live later : Live} {place : 
       → (KnowsPeers (stood later place) history → KnowsPeers q history)
       → Runs run start next q (clock_entries w clocked ++ history)
   runs_read s is-due r q goes peers =
-      runs_more s (clock_entries w clocked) (may_as is-due (clock_entries w clocked) (clocked, refl)) r.told r.faults q
+      runs_more s (clock_entries w clocked) (may_as is-due (clock_entries w clocked) (clocked, refl)) r.read.told
+      r.read.faults q
       (by clocked.slept ∙ ap (λ (f : Facts). after_clock run w clocked.reading (sleep_entries clocked.slept ++ history)
-      (record { facts = f; place = place })) (sym r.only) ∙ goes)
+      (record { facts = f; place = place })) (sym (read_facts r)) ∙ goes)
       (elim clocked.slept as (λ slept. KnowsPeers q (entries slept)) [ true ↦ known | false ↦ known ])
       (elim clocked.slept as (λ slept. AreInOrder (next.counts.peers + 1) (entries slept))
       [ true ↦ in_order | false ↦ in_order ])
@@ -306,10 +308,11 @@ module _ {run : RelayRun} {start now next : Shown} {live later : Live} {place : 
 
       known : KnowsPeers q history
       known =
-          peers (subst (λ (f : Facts). KnowsPeers (record { facts = f; place = place }) history) (sym r.only) s.peers)
+          peers (subst (λ (f : Facts). KnowsPeers (record { facts = f; place = place }) history) (sym (read_facts r))
+          s.peers)
 
       in_order : AreInOrder (next.counts.peers + 1) history
-      in_order = subst (λ (n : ℕ). AreInOrder (n + 1) history) (sym r.peers) s.ordered
+      in_order = subst (λ (n : ℕ). AreInOrder (n + 1) history) (sym r.read.peers) s.ordered
 
   -- and neither for a request nor for a landing
   pub stands_read : Stands run start now live.relay (stood live place) history
@@ -321,7 +324,7 @@ module _ {run : RelayRun} {start now next : Shown} {live later : Live} {place : 
       → Stands run start next later.relay q (clock_entries w clocked ++ history)
   stands_read s is-due none r q goes peers = record {
     runs = runs_read s.runs is-due r q goes peers;
-    knows = aside (r.known run history s.knows) (Clock w clocked.reading) none;
+    knows = aside (knows_read r s.knows) (Clock w clocked.reading) none;
   }
 
 module _ {run : RelayRun} {start now mid : Shown} {live later : Live} {history : History} {clocked : Clocked} where
@@ -346,9 +349,9 @@ module _ {run : RelayRun} {start now mid : Shown} {live later : Live} {history :
 -- ---- ends
 -- the end is due, or memory is wanting
 pub stops_here : {run : RelayRun} {start now : Shown} {p : Progress} {history : History}
-    → Runs run start now p history → IsLawful history → (ended : Driven) → (IsNetFault ended → ⊥)
+    → Runs run start now p history → IsLawful history → (ended : Driven) → IsOwn ended
     → MayEnd (due_for run history p) ended → Stops run start now ended
-stops_here {run} {start} {now} {history = history} s l ended never ends =
+stops_here {run} {start} {now} {history = history} s l ended own ends =
     let P : Due → Type 0 = λ x. MayEnd x ended in
     record {
       ran = record {
@@ -359,14 +362,15 @@ stops_here {run} {start} {now} {history = history} s l ended never ends =
         numbered = s.numbered;
         ends = subst P (sym (ap (due_for run history) s.progress)) ends;
       };
-      counted = counts_same start.counts.faults now.counts.faults ended never s.faults;
+      counted = counts_same start.counts.faults now.counts.faults ended (own_quiet ended own) s.faults;
+      quiet = λ e. subst IsOwn e own;
     }
 
 pub stops_by_memory : {run : RelayRun} {start now : Shown} {p : Progress} {history : History}
     → Runs run start now p history → IsLawful history → (ended : Driven) → ended ≡ driven.Memory
     → Stops run start now ended
 stops_by_memory {run} {start} {now} s l ended e =
-    subst (λ (x : Driven). Stops run start now x) (sym e) (stops_here s l driven.Memory (λ x. x) tt)
+    subst (λ (x : Driven). Stops run start now x) (sym e) (stops_here s l driven.Memory tt tt)
 
 -- ---- dials
 -- how far the run is once a dial was tried
@@ -403,7 +407,7 @@ module _ (live : Live) {run : RelayRun} {start now : Shown} {relay : Relay} {his
         (ap (λ (p : Progress). after run (NotDialled k) (Dialling k to ∷ history) p) s.runs.progress)
         (s.runs.peers.0, All-nil (Came history), s.runs.peers.2)
         (let later = d.later in in_order_later _ (next.counts.peers + 1) history s.runs.ordered (omega (arith, later)));
-    knows = aside (aside s.knows (Dialling k to) tt) (NotDialled k) tt;
+    knows = record { companion = knows_tried k to None tt s.knows.companion; wc_url = s.knows.wc_url };
   }
   dialled {next} k to is-due opens (Some q) d =
       let lt = d.peer.0 in
@@ -414,8 +418,7 @@ module _ (live : Live) {run : RelayRun} {start now : Shown} {relay : Relay} {his
             (ap (λ (p : Progress). after run (Dialled k q) (Dialling k to ∷ history) p) s.runs.progress)
             (knows_dialled k q (omega (arith, lt)) (opens q))
             (omega (arith, le), in_order_later _ q history s.runs.ordered (omega (arith, lt)));
-        knows = knows_plain (aside s.knows (Dialling k to) tt) (Dialled k q) refl refl refl refl refl refl
-            (ap (λ b. b || false) (opens q));
+        knows = record { companion = knows_tried k to (Some q) (opens q) s.knows.companion; wc_url = s.knows.wc_url };
       }
 
 module _ {run : RelayRun} {start now : Shown} {live : Live} where
@@ -453,12 +456,7 @@ module _ {run : RelayRun} {start now : Shown} {live : Live} where
   all_hung e x none =
       subst (λ (d : Driven). Stops run start now d) (sym e) (stops_here x.stands.runs (lawful x.stands.knows)
       (final (facts_in live))
-      (cond_both (is_some live.own.cii || is_some live.own.wc) driven.Done (driven.Unreachable live.own.made)
-      (λ d. IsNetFault d → ⊥) (λ _ e. e) (λ _ e. e))
-      (cond_both (is_some live.own.cii || is_some live.own.wc) driven.Done (driven.Unreachable live.own.made)
-      (λ d. due_at run (facts_in live) x.history x.place ≡ Ends d
-      → MayEnd (due_at run (facts_in live) x.history x.place) d) (λ _ e. e) (λ _ e. e)
-      (x.next ∙ ap (from_hang_ups (final (facts_in live))) none)))
+      (grind arith) (let due = x.next ∙ ap (from_hang_ups (final (facts_in live))) none in grind (arith, due)))
 
 -- ---- loops
 -- these sessions are left to be visited
@@ -474,38 +472,31 @@ keeps_on {old} {mid} {new} a b = record {
   dialled = λ e. a.dialled (b.dialled e);
   dials = omega (arith, a.dials, b.dials);
   floor = λ le. b.floor (a.floor le);
-  cut = b.cut;
+  early = b.early;
 }
 
 -- ---- what is counted
--- a run that is cut
-pub cut_so : (before now : ℕ) → before ≤ now → (ended : Driven) → IsCut ended → IsCounted before now ended
-cut_so before now le (driven.Unreachable n) c = absurd c
-cut_so before now le driven.WriteFault c = absurd c
-cut_so before now le _ c = (le, λ e. cc)
-
--- or one that made its turns, where a dial succeeded or one failed
+-- a run that made its turns, where a dial succeeded or one failed, or one that is cut
 pub ending_so : (f : Facts) (before now : ℕ) → before ≤ now
-    → (f.cii ≡ None → HasRisen before now) → (ended : Driven) → (ended ≡ final f) ⊎ IsCut ended
-    → IsCounted before now ended
+    → (f.cii ≡ None → HasRisen before now) → (ended : Driven) → (ended ≡ final f) ⊎ IsEarly ended
+    → CountsDialFaults before now ended
 ending_so f before now le tried ended (inl e) =
-    subst (λ (d : Driven). IsCounted before now d) (sym e) (by f.cii (is_some f.wc) tried)
+    subst (λ (d : Driven). CountsDialFaults before now d) (sym e) (by f.cii (is_some f.wc) tried)
   where
     by : (o : Option ℕ) (b : Bool) → (o ≡ None → HasRisen before now)
-        → IsCounted before now (cond (is_some o || b) driven.Done (driven.Unreachable f.turns))
-    by None true tried = (le, λ e. cc)
-    by None false tried = (tried refl, λ e. cc)
-    by (Some p) b tried = (le, λ e. cc)
-ending_so f before now le tried ended (inr c) = cut_so before now le ended c
+        → CountsDialFaults before now (cond (is_some o || b) driven.Done (driven.Unreachable f.turns))
+    by o b tried = grind (arith, le, tried)
+ending_so f before now le tried ended (inr early) = early_dials before now ended early le
 
 -- with what was counted before the turns
-pub counts : {before mid now : Counts} {ended : Driven} → CountsNetFault before.faults now.faults ended
-    → mid ≡ record before { faults = mid.faults } → IsCounted mid.dial_faults now.dial_faults ended
+pub counts : {run : RelayRun} {start next : Shown} {before mid now : Counts} {ended : Driven}
+    → Stops run start next ended → CountsNetFault before.faults now.faults ended
+    → mid ≡ record before { faults = mid.faults } → CountsDialFaults mid.dial_faults now.dial_faults ended
     → CountsRelayRun before now ended
-counts {now = now} {ended} faults e c = record {
+counts {now = now} {ended} stops faults e c = record {
   faults = faults;
-  dials = subst (λ (n : ℕ). CountsDialFaults n now.dial_faults ended) (ap {A = Counts} (λ x. x.dial_faults) e) c.0;
-  no_writes = c.1;
+  dials = subst (λ (n : ℕ). CountsDialFaults n now.dial_faults ended) (ap {A = Counts} (λ x. x.dial_faults) e) c;
+  no_writes = stops.quiet;
 }
 
 -- ---- the beginning
@@ -574,7 +565,8 @@ known_as : {run : RelayRun} (later : Live) {is : Relay} {h : History} {R : Type 
     → ((h : History) → StandsFor is.companion h → result ≡ of (own_of is.companion) h)
     → ◌≡◌ {A = Progress} (stood later (to (of run.companion.local h))) (stood later (to result))
 known_as later {h = h} of to k value =
-    ap (λ own. stood later (to (of own h))) (sym k.own) ∙ ap (λ x. stood later (to x)) (sym (value h k.stands))
+    ap (λ own. stood later (to (of own h))) (sym k.companion.local)
+    ∙ ap (λ x. stood later (to x)) (sym (value h k.companion.stands))
 
 module _ {run : RelayRun} {start now mid : Shown} {live later : Live} {history : History} {clocked : Clocked} where
   pub receives : {peer : ℕ} {bytes : List ℕ}
@@ -588,7 +580,7 @@ module _ {run : RelayRun} {start now mid : Shown} {live later : Live} {history :
   receives {peer} {bytes} s some r result value =
       stands_read s (ap from_taken some) tt r (stood later (received peer result))
       (known_as later (λ own h. received_after own h clocked.reading bytes) (received peer)
-      (r.known run history s.knows) value)
+      (knows_read r s.knows) value)
       (unnamed history (received peer result)
       (elim result as (λ x. named (received peer x) ≡ []) [ Err bad ↦ refl | Ok ticket ↦ refl ]))
 
@@ -602,7 +594,7 @@ module _ {run : RelayRun} {start now mid : Shown} {live later : Live} {history :
   answers {peer} {ticket} s r result value =
       stands_read s refl tt r (stood later (answering peer result))
       (known_as later (λ own h. datagram_of (answered_after own h clocked.reading ticket)) (answering peer)
-      (r.known run history s.knows) value) (unnamed history (answering peer result)
+      (knows_read r s.knows) value) (unnamed history (answering peer result)
       (elim result as (λ x. named (answering peer x) ≡ []) [ Err bad ↦ refl | Ok bytes ↦ refl ]))
 
 -- ---- sessions that others open
@@ -627,7 +619,10 @@ module _ (live : Live) {run : RelayRun} {start now next : Shown} {history : Hist
         (ap (after run (Accepted peer k) history) s.runs.progress
         ∙ ap (λ b. opened_if b peer (facts_in live)) (sym e)) (peers kept)
         (omega (arith, is), in_order_later (now.counts.peers + 1) peer history s.runs.ordered (omega (arith, lt)));
-    knows = knows_plain s.knows (Accepted peer k) refl refl refl refl refl refl refl;
+    knows = record {
+      companion = knows_plain (Accepted peer k) s.knows.companion refl refl refl refl refl refl refl;
+      wc_url = s.knows.wc_url;
+    };
   }
     where
       New : ℕ → Type 0
@@ -701,7 +696,7 @@ module _ (live : Live) {run : RelayRun} {start now next : Shown} {history : Hist
   refused bytes a ended r =
       stops_here (heard bytes a)
       (lawful_plain (Heard peer bytes) history (lawful s.knows) refl refl) ended
-      (own_quiet ended (refusal_own (refusal_of (Some bytes) history) ended r))
+      (refusal_own (refusal_of (Some bytes) history) ended r)
       (ends (refusal_of (Some bytes) history) r)
     where
       state : State
@@ -725,4 +720,4 @@ module _ (live : Live) {run : RelayRun} {start now next : Shown} {history : Hist
       (facts_in live)) accepts
       ∙ ap (λ (x : List ℕ). published (relayed_state x (state_of (Heard peer bytes ∷ history))) (facts_in live))
       (sym k.wc_url)
-      ∙ ap (λ (x : State). published (relayed_state later.wc_url x) (facts_in live)) (sym k.stands.state))
+      ∙ ap (λ (x : State). published (relayed_state later.wc_url x) (facts_in live)) (sym k.companion.stands.state))

@@ -1,7 +1,7 @@
 -- What each session of a relay was told and is still to be told, over the calls of a proper run.
 use Rattle.std.proofs.Common.{◌≡◌, ℕ, ◌≤◌, Bool, true, false, cond, eqb, List, [], ◌∷◌, ◌++◌, length, Option, Some}
 use Rattle.std.proofs.Common.{None, refl, sym, ap, subst, ◌∙◌, arith, ◌<◌, append_assoc, zero, suc}
-use Rattle.std.specs.Prelude.{◌||◌, ◌&&◌, unwrap_or}
+use Rattle.std.specs.Prelude.{◌||◌, ◌&&◌, unwrap_or, ⊤}
 use Rattle.std.proofs.lemmas.Bool.{cond_both}
 use Rattle.std.proofs.lemmas.Bool.Decides.{nat_tests}
 use Rattle.css_cii.specs.declared.state.State.{State}
@@ -10,24 +10,18 @@ use Rattle.css_sessions.specs.Told.{latest, with_text, cii_texts}
 use Rattle.css_drive.specs.TvTold.{lost, sent_to, is_gone}
 use Rattle.css_drive.proofs.TvTold.{none_there, numbered_rest}
 use Rattle.css_drive_relay.specs.Places.{Place, Facts, Progress, telling, telling_if, without, opened_if, published}
-use Rattle.css_drive_relay.specs.Places.{Asking, Greeting, Welcomed, Dropping, Telling, Asked, progress_of, is_kept}
-use Rattle.css_drive_relay.specs.Places.{next_asked}
+use Rattle.css_drive_relay.specs.Places.{Welcomed, Dropping, Asked, progress_of, is_kept}
 use Rattle.css_drive_relay.proofs.Follows.{waiting, text_at, IsToTell, Follows, Followed, followed, Fits, fits}
-use Rattle.css_drive_relay.proofs.Follows.{on_begun, on_hung_up, on_received, on_answered}
-use Rattle.css_drive_relay.specs.Told.{SessionStates, with_state, while_open, texts_told, relayed, published_at}
-use Rattle.css_drive_relay.specs.Told.{has, unless_refused, last_published, states_of, SessionsAreTold}
+use Rattle.css_drive_relay.specs.Told.{SessionStates, with_state, while_open, texts_told, relayed, published_at, has}
+use Rattle.css_drive_relay.specs.Told.{unless_refused, last_published, states_of, SessionsAreTold}
 use Rattle.css_companion.specs.declared.fault.CompanionFault.{CompanionFault}
 use Rattle.css_drive.specs.CompanionDue.{refusal_of}
 use Rattle.css_drive.specs.Proper.{Due, Ends}
 use Rattle.css_drive.specs.TvRan.{AreBelow, AreNumbered}
 use Rattle.css_drive.specs.declared.driven.Driven.{Driven}
-use Rattle.css_model.specs.History.{Entry, History, Slept, Clock, Dialling, Dialled, NotDialled, Accepted, NoneCame}
-use Rattle.css_model.specs.History.{Sent, Quiet, Heard, Closed, Wrote, Gone, HungUp}
+use Rattle.css_model.specs.History.{Entry, History, Slept, Accepted, Sent, Heard, Closed, Wrote, Gone}
 use Rattle.css_drive_relay.specs.declared.config.RelayRun.{RelayRun}
 use Rattle.css_model.specs.declared.Kind.{Kind}
-use Rattle.css_drive.specs.declared.driven.Driven.TheVariants as driven
-use Rattle.css_model.specs.declared.Kind.TheVariants as kind
-use Rattle.css_model.specs.declared.Why.TheVariants as why
 use Rattle.css_drive_relay.specs.Places as places
 
 -- ---- peers in a list
@@ -42,9 +36,7 @@ any (suc n) = true
 
 has_count : (peer : ℕ) (peers : List ℕ) → has peer peers ≡ any (count peer peers)
 has_count peer [] = refl
-has_count peer (p ∷ ps) =
-    elim (eqb p peer) as (λ b. (b || has peer ps) ≡ any (cond b (suc (count peer ps)) (count peer ps)))
-    [ true ↦ refl | false ↦ has_count peer ps ]
+has_count peer (p ∷ ps) = let ih = has_count peer ps in grind (arith, nat_tests, ih)
 
 count_without : (peer other : ℕ) (peers : List ℕ)
     → count peer (without other peers) ≡ cond (eqb other peer) 0 (count peer peers)
@@ -71,8 +63,7 @@ none_owed peer p e = ap (λ xs. texts (count peer xs) (text_at p.place p.facts))
 
 owed_telling : (peer : ℕ) (text left : List ℕ) (f : Facts)
     → owed peer (record { facts = f; place = telling text left f }) ≡ texts (count peer left) text
-owed_telling peer text [] f = refl
-owed_telling peer text (p ∷ ps) f = refl
+owed_telling peer text left f = grind arith
 
 -- ---- what stands as the run goes on
 -- these states of a session end with this one
@@ -227,8 +218,7 @@ owed_by (Some text) n = texts n text
 
 owed_published : (peer : ℕ) (f : Facts) (text : Option (List ℕ))
     → owed peer (record { facts = f; place = telling_if text f }) ≡ owed_by text (count peer f.peers)
-owed_published peer f None = refl
-owed_published peer f (Some text) = owed_telling peer text f.peers f
+owed_published peer f text = grind arith
 
 publishes : {states : Option SessionStates} {last : State} {sent : List (List ℕ)} {gone : Bool} {ToCome : Type 0}
     (kept : ℕ) {state : State} → Tells states last sent gone ToCome kept [] state → (s : State)
@@ -278,34 +268,32 @@ GoodAt run peer states last h p =
 abbrev pub Good : RelayRun → ℕ → History → Type 0
 Good run peer h = GoodAt run peer (states_of run peer h) (last_published run h) h (progress_of run h)
 
--- ---- places to which nothing is owed
-waits_welcomed : (o : Option ℕ) (peers : List ℕ) → waiting (next_asked o peers) ≡ []
-waits_welcomed None peers = refl
-waits_welcomed (Some p) peers = refl
-
-waits_passed : (f : Facts) (place : Place) → waiting place ≡ [] → waiting (places.passed place f) ≡ []
-waits_passed f (Welcomed peer) e = e
-waits_passed f place e = e
-
 -- ---- places after a text
 owes_told : (peer : ℕ) (place : Place) (f g : Facts) (text : List ℕ) → text_at place f ≡ text
     → texts (count peer (places.without_first (waiting place))) text
     ≡ owed peer (record { facts = g; place = places.told place g })
-owes_told peer (Greeting other) f g text e =
-    sym (none_owed peer (record { facts = g; place = places.welcomed g }) (waits_welcomed g.television g.peers))
-owes_told peer (Telling words left) f g text e =
-    sym (owed_telling peer words (places.without_first left) g
-    ∙ ap (texts (count peer (places.without_first left))) e)
-owes_told peer place f g text e = refl
+owes_told peer place f g text e = grind (arith, e)
 
 gone_told : (place : Place) (f : Facts) (other : ℕ) → waiting place ≡ other ∷ places.without_first (waiting place)
     → places.gone other place f
     ≡ record { facts = places.lost other f; place = places.told place (places.lost other f) }
-gone_told (Greeting peer) f other e = refl
-gone_told (Telling text left) f other e = refl
-gone_told place f other e = absurd (cc)
+gone_told place f other e = grind (arith, e)
 
 -- ---- an entry
+-- it is of no session that was accepted
+abbrev pub IsPassed : Entry → Type 0
+IsPassed (Accepted peer kind) = ⊥
+IsPassed (Heard peer bytes) = ⊥
+IsPassed (Closed peer) = ⊥
+IsPassed (Wrote peer text) = ⊥
+IsPassed (Gone peer) = ⊥
+IsPassed _ = ⊤
+
+after_passed : (run : RelayRun) (older : History) (entry : Entry) → IsPassed entry → (f : Facts) (place : Place)
+    → Follows run f place entry → let q : Progress = places.after run entry older (record { facts = f; place = place }) in
+    (waiting place ≡ []) × (q.facts.peers ≡ f.peers) × (q.facts.state ≡ f.state) × (waiting q.place ≡ [])
+after_passed run older entry is f place c = grind (arith, is, c)
+
 module _ (run : RelayRun) (peer : ℕ) (older : History) (t : Good run peer older) where
   abbrev p : Progress
   p = progress_of run older
@@ -360,10 +348,6 @@ module _ (run : RelayRun) (peer : ℕ) (older : History) (t : Good run peer olde
     after_heard other bytes (Asked left) e = loses other (Dropping other (places.without_first left)) refl
     after_heard other bytes place e = stays (places.heard run other bytes older place p.facts) refl refl e
 
-    after_sent : (place : Place) → At (places.sent place p.facts)
-    after_sent (Asking reading) = stays (places.sent (Asking reading) p.facts) refl refl refl
-    after_sent place = stays (places.sent place p.facts) refl refl refl
-
     -- a session was accepted, and is kept or not
     kept_last : (other : ℕ) (b : Bool) → eqb other peer ≡ b
         → cond b (suc (count peer p.facts.peers)) (count peer p.facts.peers)
@@ -405,39 +389,24 @@ module _ (run : RelayRun) (peer : ℕ) (older : History) (t : Good run peer olde
       (same (went_one (eqb other peer) _ text (due other text c)) (sym (count_without peer other p.facts.peers))
       (owes_told peer p.place p.facts g text c.1) refl)
 
+  -- an entry of no session that was accepted
+  passes : (entry : Entry) → IsPassed entry → Follows run p.facts p.place entry → At (next entry)
+  passes entry is c =
+      let x = after_passed run older entry is p.facts p.place c in stays x.0 (next entry) x.1 x.2 x.3
+
   after : (entry : Entry) → Follows run p.facts p.place entry → AreNumbered (entry ∷ older)
       → Good run peer (entry ∷ older)
-  after (Clock why.Turn reading) c n =
-      stays c.0 (next (Clock why.Turn reading)) refl refl
-      (on_begun (λ place. waiting place ≡ []) run (places.with_turn reading p.facts) refl refl)
-  after (Clock why.Take reading) c n =
-      stays c.0 (next (Clock why.Take reading)) refl refl
-      (on_received (λ place. waiting place ≡ []) run reading older p.place (λ never. absurd (never c.2)) refl
-      (λ q b t is. refl))
-  after (Clock why.Give reading) c n =
-      stays c.0 (next (Clock why.Give reading)) refl refl
-      (on_answered (λ place. waiting place ≡ []) run reading older p.place (λ never. absurd (never c.2)) refl
-      (λ q t m at is. refl))
-  after (Dialling kind.Ts to) c n = absurd c
-  after (Dialling k to) c n = stays c.0 (next (Dialling k to)) refl refl c.0
-  after (Dialled kind.Ts other) c n = absurd c
-  after (NotDialled kind.Ts) c n = absurd c
   after (Accepted other k) c n =
       opened c.0 other k (eqb other peer) (is_kept k (length p.facts.peers)) n.0 refl
-  after NoneCame c n = stays c.0 (next NoneCame) refl refl (waits_welcomed p.facts.television p.facts.peers)
-  after (Sent other bytes) c n = after_sent c.0 p.place
-  after (Quiet other) c n = stays c.0 (next (Quiet other)) refl refl (waits_passed p.facts p.place c.0)
   after (Heard other bytes) c n = after_heard c.0 other bytes p.place c.0
   after (Closed other) c n = after_closed c.0 other p.place c.0
   after (Wrote other text) c n =
       same (wrote_one (eqb other peer) _ text (due other text c)) refl
       (owes_told peer p.place p.facts p.facts text c.1) refl
   after (Gone other) c n = after_gone other c.0 c.1
-  after (HungUp other) c n =
-      stays c.0 (next (HungUp other)) refl refl (on_hung_up (λ place. waiting place ≡ []) p.place p.facts
-      (waits_welcomed p.facts.television p.facts.peers) (λ left. refl) (λ left. refl))
-  after Slept c n = stays c.0 (next Slept) refl refl c.0
-  after entry c n = stays c.0 (next entry) refl refl refl
+  after Slept c n = passes Slept tt c
+  after (Sent other bytes) c n = passes (Sent other bytes) tt c
+  after entry c n = passes entry tt c
 
 -- ---- the run
 all_good : (run : RelayRun) (peer : ℕ) (h : History) → Followed run h → AreNumbered h → Good run peer h
@@ -458,9 +427,7 @@ all_good run peer (entry ∷ older) each numbered =
 -- where the end is due nothing is owed
 ended_waits : (run : RelayRun) (f : Facts) (place : Place) (ended : Driven) → Fits run f place (Ends ended)
     → waiting place ≡ []
-ended_waits run f place driven.Done c = c.0
-ended_waits run f place (driven.Unreachable turns) c = c.0
-ended_waits run f place _ c = c.0
+ended_waits run f place ended c = grind (arith, c)
 
 -- what is unsent are at most a text that is owed and one that was lost, and not both
 few_unsent : {states : Option SessionStates} {last : State} {sent : List (List ℕ)} {gone : Bool} {ToCome : Type 0}

@@ -1,19 +1,24 @@
 -- How the variables of a relay's run stand for its history.
-use Rattle.std.specs.Prelude.{◌≡◌, ◌≢◌, ◌≤◌, ◌<◌, ◌+◌, ℕ, List, [], ◌∷◌, ◌++◌, All, Some, None, IfSome, ◌⊎◌, Result}
+use Rattle.std.specs.Prelude.{◌≡◌, ◌≢◌, ◌≤◌, ◌<◌, ◌+◌, ℕ, List, [], ◌∷◌, All, Some, None, IfSome, ◌⊎◌, Result, Ok, Err}
 use Rattle.std.specs.Prelude.{Option, MatchResult, OnOk, IfErr, ⊤}
-use Rattle.css_model.specs.declared.TheConstants.{LIMIT}
 use Rattle.css_model.specs.declared.Kind.TheVariants as kind
 use Rattle.css_model.specs.declared.Why.{Why}
-use Rattle.css_model.specs.History.{History, Dialled, Accepted}
+use Rattle.css_model.specs.History.{History, Address, Dialled, Accepted}
+use Rattle.css_cii.specs.declared.name.CiiName.TheVariants.{WcUrl}
 use Rattle.css_outside.specs.Faults.{HasRisen}
-use Rattle.css_outside.specs.Outsides.{Counts, with_entries, clock_entries, sleep_entries}
+use Rattle.css_outside.specs.Outsides.{Counts, with_entries}
 use Rattle.css_outside.specs.declared.calls.Clocked.{Clocked}
 use Rattle.css_companion.specs.Meanings.{kind_of}
-use Rattle.css_companion.specs.Standing.{Companion, StandsFor, own_of}
+use Rattle.css_companion.specs.Standing.{Companion}
 use Rattle.css_drive.specs.declared.companion_live.Live.{Live as Own}
+use Rattle.css_relay.specs.Lending.{with_companion}
 use Rattle.css_relay.specs.Relays.{Relay, wc_url_of}
-use Rattle.css_drive.specs.CompanionStanding.{Shown, shown, IsCut, asked_after}
-use Rattle.css_drive.specs.Ends.{CountsNetFault, CountsDialFaults}
+use Rattle.css_drive.specs.CompanionDue.{place}
+use Rattle.css_drive.specs.CompanionStanding as companions
+use Rattle.css_drive.specs.CompanionStanding.{Shown, shown, IsEarly}
+use Rattle.css_drive.specs.CompanionTurns.{is_asking}
+use Rattle.css_drive.specs.Stages.{At, DialsOnce, DialsTold, AsksOnce}
+use Rattle.css_drive.specs.Ends.{CountsNetFault}
 use Rattle.css_drive.specs.Proper.{Due}
 use Rattle.css_drive.specs.TvRan.{AreNumbered}
 use Rattle.css_drive.specs.declared.driven.Driven.{Driven}
@@ -41,10 +46,9 @@ facts_in live = record {
   peers = live.peers.items;
 }
 
--- the relay is the configuration's, and stands for the history
+-- the relay is the configuration's, and its companion stands for the history
 pub record Knows (run : RelayRun) (relay : Relay) (history : History) : Type 0 where
-  pub stands : StandsFor relay.companion history
-  pub own : own_of relay.companion ≡ run.companion.local
+  pub companion : companions.Knows run.companion relay.companion history
   pub wc_url : relay.wc_url ≡ wc_url_of run.host run.port
 
 -- Each peer that was dialled or accepted has a number below this one, and a greater one than those before it.
@@ -103,6 +107,7 @@ visiting visit.Hear left f = Asked left
 pub record Stops (run : RelayRun) (start now : Shown) (ended : Driven) : Type 0 where
   pub ran : RelayRan run start.told now.told ended
   pub counted : CountsNetFault start.counts.faults now.counts.faults ended
+  pub quiet : ended ≢ driven.WriteFault
 
 -- ---- parts of the loop
 -- the facts at the place that they say
@@ -138,14 +143,14 @@ Goes told counts run old new was is from to result = (start : Shown) (history : 
     (Stops run start (shown (told new) (counts new)))
 
 -- What every stage of a turn leaves as it is. Failed dials are counted, the relay knows no reading above the last one,
--- and an end comes in the midst of the turn.
+-- and no end comes that is one of turns that are made.
 pub record Keeps {T : Type 0} (old new : Counts) (before now : Live) (result : Result T Driven) : Type 0 where
   pub made : now.own.made ≡ before.own.made
   pub dialled : now.own.cii ≡ None → before.own.cii ≡ None
   pub dials : old.dial_faults ≤ new.dial_faults
   pub floor : before.relay.companion.client.floor ≤ old.last
       → OnOk result (now.relay.companion.client.floor ≤ new.last)
-  pub cut : IfErr result IsCut
+  pub early : IfErr result IsEarly
 
 -- What every call of the television leaves as it is, of what the relay keeps as a companion.
 pub record Stays {T : Type 0} (old new : Counts) (before now : Own) (was is : Companion) (result : Result T Driven)
@@ -154,18 +159,25 @@ pub record Stays {T : Type 0} (old new : Counts) (before now : Own) (was is : Co
   pub dialled : now.cii ≡ None → before.cii ≡ None
   pub dials : old.dial_faults ≤ new.dial_faults
   pub floor : was.client.floor ≤ old.last → OnOk result (is.client.floor ≤ new.last)
+  pub early : IfErr result IsEarly
 
--- The clock was read, and where the machine slept the relay knows.
+-- The session of CSS-CII is dialled, then the wall clock, and then it is asked: all three went well, or the first that
+-- didn't ended the run.
+abbrev pub DialsAndAsks : Address → ℕ → At → At → Result (Unit {0}) Driven → Type 0
+DialsAndAsks to every old new result =
+    let Cii : At → At → Result (Unit {0}) Driven → Type 0 = λ a b. DialsOnce None kind.Cii a.live.cii to a b in
+    let Wc : At → At → Result (Unit {0}) Driven → Type 0 = λ a b.
+    DialsTold None kind.Wc WcUrl a.live.wc (place kind.Wc a.companion.state.wc_url) a b in
+    let Asks : At → At → Result (Unit {0}) Driven → Type 0 = λ a b.
+    AsksOnce None a.live.wc (is_asking every a.live.turn a.live.asked) a b in
+    MatchResult result (λ _. (a : At) × (b : At) × Cii old a (Ok tt) × Wc a b (Ok tt) × Asks b new (Ok tt))
+    (λ ended. Cii old new (Err ended) ⊎ ((a : At) × Cii old a (Ok tt) × Wc a new (Err ended))
+    ⊎ ((a : At) × (b : At) × Cii old a (Ok tt) × Wc a b (Ok tt) × Asks b new (Err ended)))
+
+-- The clock was read as a companion reads it, and nothing else changed.
 pub record HasRead (old new : Shown) (before now : Live) (why : Why) (clocked : Clocked) : Type 0 where
-  pub told : new.told ≡ with_entries (clock_entries why clocked) old.told
-  pub faults : new.counts.faults ≡ old.counts.faults
-  pub peers : new.counts.peers ≡ old.counts.peers
-  pub last : new.counts.last ≡ clocked.reading
-  pub below : clocked.reading < LIMIT
-  pub floor : now.relay.companion.client.floor ≤ clocked.reading
-  pub known : (run : RelayRun) (history : History) → Knows run before.relay history
-      → Knows run now.relay (sleep_entries clocked.slept ++ history)
-  pub only : facts_in now ≡ record (facts_in before) { asked = asked_after clocked.slept before.own.asked }
+  pub read : companions.HasRead old new before.own now.own before.relay.companion now.relay.companion why clocked
+  pub rest : now ≡ record before { own = now.own; relay = with_companion before.relay now.relay.companion }
 
 -- ---- the end
 -- The run came to where these sessions are to be hung up, and then it ends.
@@ -175,10 +187,6 @@ pub record HangsUp (run : RelayRun) (start now : Shown) (live : Live) (left : Li
   pub stands : Stands run start now live.relay (stood live place) history
   pub next : due_at run (facts_in live) history place ≡ from_hang_ups (final (facts_in live)) left
   pub after : hung_up place (facts_in live) ≡ Over (without_first left)
-
--- A failed dial was counted where every dial failed, and nothing was written.
-abbrev pub IsCounted : ℕ → ℕ → Driven → Type 0
-IsCounted before now ended = CountsDialFaults before now ended × (ended ≢ driven.WriteFault)
 
 -- Where no dial of CSS-CII succeeded in a turn, one failed.
 abbrev pub HasTried : Counts → Counts → Live → Type 0

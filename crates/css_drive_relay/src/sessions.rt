@@ -3,7 +3,7 @@ ghost use Rattle.std.specs.Prelude.{◌≡◌, ◌≤◌, ◌∷◌, ◌⊎◌, 
 ghost use Rattle.std.specs.Prelude.{IfErr, MatchResult};
 ghost use Rattle.css_model.specs.History.{History};
 ghost use Rattle.css_relay.specs.Relays.{relayed_state};
-ghost use Rattle.css_drive.specs.CompanionStanding.{Shown, shown, IsCut};
+ghost use Rattle.css_drive.specs.CompanionStanding.{Shown, shown, IsEarly};
 ghost use Rattle.css_drive.specs.CompanionTurns.{goes_on};
 ghost use Rattle.css_drive_relay.specs.Due.{final};
 ghost use Rattle.css_drive_relay.specs.Places as places;
@@ -211,7 +211,7 @@ pub fn finish<O: Outside>(live: &Live, outside: &mut O) -> Driven
         → goes_on run.limit live.now.own.first live.now.own.turn live.now.own.made ≡ false
         → Stops run start (shown (O.told outside.new) (O.counts outside.new)) result }
     ensures dials { (O.counts outside.old).dial_faults ≤ (O.counts outside.new).dial_faults }
-    ensures kind { (result ≡ final (facts_in live.now)) ⊎ IsCut result }
+    ensures kind { (result ≡ final (facts_in live.now)) ⊎ IsEarly result }
 {
     let Ok(peers) = all_open(live) else {
         return Driven::Memory;

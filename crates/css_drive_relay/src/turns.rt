@@ -3,18 +3,19 @@ ghost use Rattle.std.specs.Prelude.{◌≡◌, ◌≤◌, ◌<◌, ◌+◌, [], 
 ghost use Rattle.css_model.specs.History.{History};
 ghost use Rattle.css_outside.specs.Faults.{HasRisen};
 ghost use Rattle.css_outside.specs.Outsides.{Counts};
-ghost use Rattle.css_drive.specs.CompanionStanding.{Shown, shown, IsCut};
+ghost use Rattle.css_drive.specs.CompanionStanding.{Shown, shown, IsEarly};
+ghost use Rattle.css_drive.specs.Ends.{CountsDialFaults};
 ghost use Rattle.css_drive.specs.CompanionTurns as turns;
 ghost use Rattle.css_drive_relay.specs.Places.{Asked, Begun, beginning};
 ghost use Rattle.css_drive_relay.specs.Ran.{IsWritable, RelayRan, CountsRelayRun};
-ghost use Rattle.css_drive_relay.specs.Standing.{facts_in, placed, stood, HasTried, IsAt, IsCounted, Keeps, Knows};
+ghost use Rattle.css_drive_relay.specs.Standing.{facts_in, placed, stood, HasTried, IsAt, Keeps, Knows};
 ghost use Rattle.css_drive_relay.specs.Standing.{Leads, Stands, Stops};
 
 use crate::config::RelayRun;
 use crate::live::{Live, Published};
 use crate::sessions::{Visit, finish, hear_television, visit_all, welcome};
 use crate::stages::{read, serve};
-use crate::television::{ask, dial_cii, dial_wc};
+use crate::television::dial_and_ask;
 use css_cii::State;
 use css_companion::CompanionConfig;
 use css_drive::Driven;
@@ -34,19 +35,12 @@ fn calls<O: Outside>(run: &RelayRun, live: &mut Live, outside: &mut O) -> Result
     ensures tried { OnOk result (live.new.own.cii ≡ None
         → HasRisen (O.counts outside.old).dial_faults (O.counts outside.new).dial_faults) }
 {
-    dial_cii(
+    dial_and_ask(
         live.alloc,
         live.relay.companion(),
         outside,
         &mut live.own,
         &run.cii,
-    )?;
-    dial_wc(live.alloc, live.relay.companion(), outside, &mut live.own)?;
-    ask(
-        live.alloc,
-        live.relay.companion(),
-        outside,
-        &mut live.own,
         run.ask_every,
     )?;
     serve(live, outside)?;
@@ -69,7 +63,7 @@ fn turn<O: Outside>(run: &RelayRun, live: &mut Live, outside: &mut O) -> Result<
     ensures tried { (before : Counts) → before.dial_faults ≤ (O.counts outside.old).dial_faults
         → HasTried before (O.counts outside.old) live.old
         → OnOk result (HasTried before (O.counts outside.new) live.new) }
-    ensures cut { IfErr result IsCut }
+    ensures early { IfErr result IsEarly }
 {
     let reading = read(live, outside, Why::Turn)?.reading;
     live.own.begin(reading);
@@ -109,7 +103,7 @@ fn make_turns<O: Outside>(run: &RelayRun, live: &mut Live, outside: &mut O) -> D
         → Stands run.now start (shown (O.told outside.old) (O.counts outside.old)) live.old.relay
         (stood live.old (Asked [])) history
         → Stops run.now start (shown (O.told outside.new) (O.counts outside.new)) result }
-    ensures counted { IsCounted (O.counts outside.old).dial_faults (O.counts outside.new).dial_faults result }
+    ensures counted { CountsDialFaults (O.counts outside.old).dial_faults (O.counts outside.new).dial_faults result }
 {
     'turns: while goes_on(run.limit, live.own.first, live.own.turn, live.own.made) {
         if let Err(ended) = turn(run, live, outside) {

@@ -3,4 +3,5 @@ pub mod HostTexts
 pub mod Exponents
 pub mod Readings
 pub mod Responses
+pub mod ReadBack
 pub mod TwoHops

@@ -11,7 +11,7 @@ loop-peer-init g c = record {
       steps.visits c.args.live.now c.args.what.now (h, s)
       (sym (c.deref-peer-items.ensures.value ∙ same_from_all_zip _ _ _ (rw c.in_ok-left.ensures.ok at
       c.clone.ensures).cases.0 (λ x y e. e)));
-  keeps = record { made = refl; dialled = λ e. e; dials = omega arith; floor = λ le. le; cut = tt };
+  keeps = record { made = refl; dialled = λ e. e; dials = omega arith; floor = λ le. le; early = tt };
 }
 
 pub loop-peer-preserved : goal.loop-peer-preserved

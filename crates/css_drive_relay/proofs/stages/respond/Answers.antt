@@ -4,8 +4,8 @@ use Rattle.css_model.specs.declared.Why.TheVariants as why
 use Rattle.css_outside.specs.Outsides.{clock_entries, sleep_entries}
 use Rattle.css_outside.specs.declared.calls.Clocked.{Clocked}
 use Rattle.css_companion.specs.Standing.{own_of}
+use Rattle.css_relay.proofs.ReadBack.{answer_is_no_request}
 use Rattle.css_drive.proofs.CompanionSteps.{at_err}
-use Rattle.css_drive_relay.proofs.SecondHop.{answer_is_no_request}
 use Rattle.css_drive_relay.proofs.Steps as steps
 use Rattle.css_drive_relay.proofs.stages.respond.Goals as goal
 
@@ -40,4 +40,4 @@ returns-in-Ok-answer-clause-goes g c run some start h s =
     (Sent c.args.peer c.in-Ok-answer.answer) refl
     (answer_is_no_request (own_of c.read-in-Ok.new.live.relay.companion) before clocked.reading c.in-Ok.ticket
     c.in-Ok-answer.answer (sym (c.in-Ok-answer.ensures.value before
-    (read.known run older s1.knows).stands))) (λ x. x) _ c.send_datagram.result c.send_datagram.ensures.told
+    (steps.knows_read read s1.knows).companion.stands))) (λ x. x) _ c.send_datagram.result c.send_datagram.ensures.told

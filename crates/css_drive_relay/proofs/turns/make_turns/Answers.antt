@@ -1,7 +1,6 @@
 use Rattle.std.proofs.Common.{◌∙◌, ◌≤◌, ℕ, Option, subst, sym, arith}
 use Rattle.std.specs.Prelude.{IfSome}
-use Rattle.css_drive.proofs.CompanionEnds.{below_most}
-use Rattle.css_drive.proofs.CompanionEnds.{risen_to}
+use Rattle.css_drive.proofs.CompanionEnds.{below_most, early_dials, risen_to}
 use Rattle.css_drive_relay.proofs.Steps as steps
 use Rattle.css_drive_relay.specs.Standing.{facts_in}
 use Rattle.css_drive_relay.proofs.turns.make_turns.Goals as goal
@@ -34,7 +33,7 @@ turn-requires-clause-few g c =
 
 pub returns-in-Err-clause-counted : goal.returns-in-Err-clause-counted
 returns-in-Err-clause-counted g c =
-    steps.cut_so _ _ (omega (arith, c.turns.invariant.dials, c.turn.ensures.dials)) _ c.in-Err.ensures.cut
+    early_dials _ _ _ c.in-Err.ensures.early (omega (arith, c.turns.invariant.dials, c.turn.ensures.dials))
 
 pub returns-clause-ends : goal.returns-clause-ends
 returns-clause-ends g c start h s =

@@ -29,7 +29,7 @@ returns-then-is_late-clause-tried g c before le tried some none =
     let limit = c.args.run.now.limit in
     let live = c.args.live.now in
     let reading : ℕ = c.in_ok-reading.field-0.reading in
-    let same = ap {A = Facts} (λ f. f.first) c.in_ok-reading.ensures.told.only in
+    let same = ap {A = Facts} (λ f. f.first) (steps.read_facts c.in_ok-reading.ensures.told) in
     let last = sym c.is_late.ensures ∙ c.if-is_late.true in
     risen_to _ _ _ c.read.ensures.keeps.dials
     (tried (steps.was_second limit c.args.run.now.limit_range live.own.first live.own.made reading c.requires.begun
