@@ -36,7 +36,7 @@ use Rattle.css_drive_relay.specs.Places.{Asked, Asking, Begun, Called, Facts, Pl
 use Rattle.css_drive_relay.specs.Places.{Welcomed, published, welcomed}
 use Rattle.css_drive_relay.specs.Standing.{Comes, DialsAndAsks, HasRead, IsAt, Knows, Runs, Stands, Stops, facts_in}
 use Rattle.css_drive_relay.specs.Standing.{stood}
-use Rattle.css_drive_relay.specs.declared.config.RelayRun.{RelayRun}
+use Rattle.css_drive_relay.specs.declared.plan.Plan.{Plan}
 use Rattle.css_drive_relay.specs.declared.live.Live.{Live}
 use Rattle.css_drive_relay.proofs.Steps as steps
 
@@ -62,15 +62,15 @@ pub reads : (live : Live) (own : Own) (is : Companion) (now next : Shown) (w : W
 reads live own is now next w (Ok clocked) r = has_read live r
 reads live own is now next w (Err ended) f = f
 
-module _ (live : Live) {run : RelayRun} {start now : Shown} {history : History} {spot : Place}
-    (s : Stands run start now live.relay (stood live spot) history) where
+module _ (live : Live) {plan : Plan} {start now : Shown} {history : History} {spot : Place}
+    (s : Stands plan start now live.relay (stood live spot) history) where
   -- ---- dials
   tried : (k : Kind) (to : Address) → ((q : ℕ) → opens_ts (Dialled k q) ≡ false)
-      → due_at run (facts_in live) history spot ≡ Dial k to → {new : At} → Dials k to (now_at now live) new
-      → (h : History) × Stands run start new.shown (with_companion live.relay new.companion)
+      → due_at plan (facts_in live) history spot ≡ Dial k to → {new : At} → Dials k to (now_at now live) new
+      → (h : History) × Stands plan start new.shown (with_companion live.relay new.companion)
       (stood (with_at live new) (Called k)) h
   tried k to opens is {new} d =
-      let P : Own → Companion → Type 0 = λ own companion. Stands run start new.shown
+      let P : Own → Companion → Type 0 = λ own companion. Stands plan start new.shown
       (with_companion live.relay companion) (stood (record live { own = own }) (Called k))
       (dial_entries k to d.tried ++ history) in
       let stands = steps.stands_as (steps.dialled live s k to is opens d.tried d.called)
@@ -88,51 +88,51 @@ module _ (live : Live) {run : RelayRun} {start now : Shown} {history : History} 
 
   -- nothing was called
   same : (to : Facts → History → Due) {new : At} → new ≡ now_at now live
-      → due_at run (facts_in live) history spot ≡ to (facts_in live) history
-      → Comes to run start new.shown (with_at live new)
+      → due_at plan (facts_in live) history spot ≡ to (facts_in live) history
+      → Comes to plan start new.shown (with_at live new)
   same to e is =
-      subst (λ (a : At). Comes to run start a.shown (with_at live a)) (sym e) (history, spot, s, is)
+      subst (λ (a : At). Comes to plan start a.shown (with_at live a)) (sym e) (history, spot, s, is)
 
   pub goes_cii : (known : Option ℕ) → live.own.cii ≡ known
-      → due_at run (facts_in live) history spot ≡ from_cii run (facts_in live) history → (new : At)
-      (result : Result (Unit {0}) Driven) → DialsOnce None kind.Cii known run.cii (now_at now live) new result
-      → MatchResult result (λ _. Comes (from_wc run) run start new.shown (with_at live new))
-      (Stops run start new.shown)
+      → due_at plan (facts_in live) history spot ≡ from_cii plan (facts_in live) history → (new : At)
+      (result : Result (Unit {0}) Driven) → DialsOnce None kind.Cii known plan.run.cii (now_at now live) new result
+      → MatchResult result (λ _. Comes (from_wc plan) plan start new.shown (with_at live new))
+      (Stops plan start new.shown)
   goes_cii None e is new (Ok done) d =
-      let x = tried kind.Cii run.cii (λ q. refl)
-      (is ∙ ap (λ o. dial_first o run.cii (from_wc run (facts_in live) history)) e) d in
+      let x = tried kind.Cii plan.run.cii (λ q. refl)
+      (is ∙ ap (λ o. dial_first o plan.run.cii (from_wc plan (facts_in live) history)) e) d in
       (x.0, Called kind.Cii, x.1, refl)
   goes_cii None e is new (Err ended) f = steps.stops_by_fault s.runs (steps.lawful s.knows) f
   goes_cii (Some q) e is new (Ok done) x =
-      same (from_wc run) x (is ∙ ap (λ o. dial_first o run.cii (from_wc run (facts_in live) history)) e)
+      same (from_wc plan) x (is ∙ ap (λ o. dial_first o plan.run.cii (from_wc plan (facts_in live) history)) e)
   goes_cii (Some q) e is new (Err ended) never = absurd never
 
-  stops : (new : At) {ended : Driven} → new.shown ≡ now → Stops run start now ended → Stops run start new.shown ended
-  stops new {ended} e x = subst (λ (shown : Shown). Stops run start shown ended) (sym e) x
+  stops : (new : At) {ended : Driven} → new.shown ≡ now → Stops plan start now ended → Stops plan start new.shown ended
+  stops new {ended} e x = subst (λ (shown : Shown). Stops plan start shown ended) (sym e) x
 
   bad : (told : Option (Result Address AddressFault)) (ended : Driven) → GivesPlace WcUrl told (Err ended)
-      → due_at run (facts_in live) history spot ≡ dial_to None kind.Wc WcUrl told (from_ask run (facts_in live) history)
-      → Stops run start now ended
+      → due_at plan (facts_in live) history spot ≡ dial_to None kind.Wc WcUrl told (from_ask plan (facts_in live) history)
+      → Stops plan start now ended
   bad told driven.Memory g d = steps.stops_by_memory s.runs (steps.lawful s.knows) driven.Memory refl
   bad told _ g d =
-      subst (λ (x : Driven). Stops run start now x) (sym g.1) (steps.stops_here s.runs (steps.lawful s.knows)
+      subst (λ (x : Driven). Stops plan start now x) (sym g.1) (steps.stops_here s.runs (steps.lawful s.knows)
       (driven.BadUrl WcUrl) tt
-      (d ∙ ap (λ x. dial_to None kind.Wc WcUrl x (from_ask run (facts_in live) history)) g.2))
+      (d ∙ ap (λ x. dial_to None kind.Wc WcUrl x (from_ask plan (facts_in live) history)) g.2))
 
   pub goes_wc : (known : Option ℕ) (told : Option (Result Address AddressFault)) → live.own.wc ≡ known
       → place kind.Wc live.relay.companion.state.wc_url ≡ told
-      → due_at run (facts_in live) history spot ≡ from_wc run (facts_in live) history → (new : At)
+      → due_at plan (facts_in live) history spot ≡ from_wc plan (facts_in live) history → (new : At)
       (result : Result (Unit {0}) Driven) → DialsTold None kind.Wc WcUrl known told (now_at now live) new result
-      → MatchResult result (λ _. Comes (from_ask run) run start new.shown (with_at live new))
-      (Stops run start new.shown)
+      → MatchResult result (λ _. Comes (from_ask plan) plan start new.shown (with_at live new))
+      (Stops plan start new.shown)
   goes_wc known told e t is new result d = by known told (due known told e t) result d
     where
       rest : Due
-      rest = from_ask run (facts_in live) history
+      rest = from_ask plan (facts_in live) history
 
       due : (known : Option ℕ) (told : Option (Result Address AddressFault)) → live.own.wc ≡ known
           → place kind.Wc live.relay.companion.state.wc_url ≡ told
-          → due_at run (facts_in live) history spot ≡ dial_to known kind.Wc WcUrl told rest
+          → due_at plan (facts_in live) history spot ≡ dial_to known kind.Wc WcUrl told rest
       due known told e t =
           is ∙ ap (λ o. dial_to o kind.Wc WcUrl (place kind.Wc (state_of history).wc_url) rest) e
           ∙ ap (λ (x : State). dial_to known kind.Wc WcUrl (place kind.Wc x.wc_url) rest)
@@ -140,11 +140,11 @@ module _ (live : Live) {run : RelayRun} {start now : Shown} {history : History} 
           ∙ ap (λ x. dial_to known kind.Wc WcUrl x rest) t
 
       by : (known : Option ℕ) (told : Option (Result Address AddressFault))
-          → due_at run (facts_in live) history spot ≡ dial_to known kind.Wc WcUrl told rest
+          → due_at plan (facts_in live) history spot ≡ dial_to known kind.Wc WcUrl told rest
           → (result : Result (Unit {0}) Driven) → DialsTold None kind.Wc WcUrl known told (now_at now live) new result
-          → MatchResult result (λ _. Comes (from_ask run) run start new.shown (with_at live new))
-          (Stops run start new.shown)
-      by (Some q) told is (Ok done) x = same (from_ask run) x is
+          → MatchResult result (λ _. Comes (from_ask plan) plan start new.shown (with_at live new))
+          (Stops plan start new.shown)
+      by (Some q) told is (Ok done) x = same (from_ask plan) x is
       by (Some q) told is (Err ended) never = absurd never
       by None (Some (Ok to)) is (Ok done) d =
           let x = tried kind.Wc to (λ q. refl) is d in (x.0, Called kind.Wc, x.1, refl)
@@ -153,26 +153,26 @@ module _ (live : Live) {run : RelayRun} {start now : Shown} {history : History} 
           stops new x.0 (steps.stops_by_memory s.runs (steps.lawful s.knows) ended x.1)
       by None (Some (Err b)) is (Ok done) x = let never = x.0 in absurd (cc)
       by None (Some (Err b)) is (Err ended) x = stops new x.0 (bad (Some (Err b)) ended x.1 is)
-      by None None is (Ok done) x = same (from_ask run) x.1 is
+      by None None is (Ok done) x = same (from_ask plan) x.1 is
       by None None is (Err ended) x = stops new x.0 (bad None ended x.1 is)
 
   -- ---- requests
-  asking : (peer : ℕ) → live.own.wc ≡ Some peer → is_asking run.ask_every live.own.turn live.own.asked ≡ true
-      → due_at run (facts_in live) history spot ≡ from_ask run (facts_in live) history → {mid : At} {after : Companion}
+  asking : (peer : ℕ) → live.own.wc ≡ Some peer → is_asking plan.run.ask_every live.own.turn live.own.asked ≡ true
+      → due_at plan (facts_in live) history spot ≡ from_ask plan (facts_in live) history → {mid : At} {after : Companion}
       → (r : Reads peer (now_at now live) mid after)
-      → Runs run start mid.shown (stood (with_at live mid) (Asking r.clocked.reading))
+      → Runs plan start mid.shown (stood (with_at live mid) (Asking r.clocked.reading))
       (clock_entries why.Ask r.clocked ++ history)
   asking peer e time is r = steps.asks {live = live} {clocked = r.clocked} s.runs is peer e time (has_read live r.read)
 
   sending : {peer : ℕ} {mid : At} {after : Companion} → (r : Reads peer (now_at now live) mid after)
-      → Knows run (with_companion live.relay after) (Sent peer r.bytes ∷ clock_entries why.Ask r.clocked ++ history)
+      → Knows plan (with_companion live.relay after) (Sent peer r.bytes ∷ clock_entries why.Ask r.clocked ++ history)
   sending r = steps.learns (steps.knows_read (has_read live r.read) s.knows) (λ own. r.known own _)
 
   pub goes_ask : (known : Option ℕ) (time : Bool) → live.own.wc ≡ known
-      → is_asking run.ask_every live.own.turn live.own.asked ≡ time
-      → due_at run (facts_in live) history spot ≡ from_ask run (facts_in live) history → (new : At)
+      → is_asking plan.run.ask_every live.own.turn live.own.asked ≡ time
+      → due_at plan (facts_in live) history spot ≡ from_ask plan (facts_in live) history → (new : At)
       (result : Result (Unit {0}) Driven) → AsksOnce None known time (now_at now live) new result
-      → MatchResult result (λ _. Comes from_take run start new.shown (with_at live new)) (Stops run start new.shown)
+      → MatchResult result (λ _. Comes from_take plan start new.shown (with_at live new)) (Stops plan start new.shown)
   goes_ask (Some peer) true e time is new (Ok done) r =
       let own = r.reads.read.only in
       let wc = ap {A = Own} (λ x. x.wc) own ∙ e in
@@ -180,7 +180,7 @@ module _ (live : Live) {run : RelayRun} {start now : Shown} {history : History} 
         sent ∷ clock_entries why.Ask r.reads.clocked ++ history,
         Requested,
         record {
-          runs = subst (λ own. Runs run start new.shown (stood (record live { own = own }) Requested)
+          runs = subst (λ own. Runs plan start new.shown (stood (record live { own = own }) Requested)
               (sent ∷ clock_entries why.Ask r.reads.clocked ++ history)) (sym r.live)
               (steps.runs_on (asking peer e time is r.reads) sent (steps.may_as
               (ap (λ o. send_to o (encoded (request_at r.reads.clocked.reading))) wc
@@ -197,7 +197,7 @@ module _ (live : Live) {run : RelayRun} {start now : Shown} {history : History} 
       same from_take x (is ∙ ap₂ (λ (o : Option ℕ) (c : Bool). cond (is_some o && c) (Now why.Ask) TakeDatagram) e time)
   goes_ask (Some peer) false e time is new (Err ended) never = absurd never
   goes_ask None b e time is new (Ok done) x =
-      same from_take x (is ∙ ap (λ (o : Option ℕ). cond (is_some o && is_asking run.ask_every live.own.turn live.own.asked)
+      same from_take x (is ∙ ap (λ (o : Option ℕ). cond (is_some o && is_asking plan.run.ask_every live.own.turn live.own.asked)
       (Now why.Ask) TakeDatagram) e)
   goes_ask None b e time is new (Err ended) never = absurd never
 
@@ -211,10 +211,10 @@ pub all_three : (to : Address) (every : ℕ) (old a b : At)
 all_three to every old a b cii wc new (Ok done) asks = (a, b, cii, wc, asks)
 all_three to every old a b cii wc new (Err ended) asks = inr (inr (a, b, cii, wc, asks))
 
-pub goes_calls : (live : Live) {run : RelayRun} {start now : Shown} {history : History}
-    → Stands run start now live.relay (stood live Begun) history → (new : At) (result : Result (Unit {0}) Driven)
-    → DialsAndAsks run.cii run.ask_every (now_at now live) new result
-    → MatchResult result (λ _. Comes from_take run start new.shown (with_at live new)) (Stops run start new.shown)
+pub goes_calls : (live : Live) {plan : Plan} {start now : Shown} {history : History}
+    → Stands plan start now live.relay (stood live Begun) history → (new : At) (result : Result (Unit {0}) Driven)
+    → DialsAndAsks plan.run.cii plan.run.ask_every (now_at now live) new result
+    → MatchResult result (λ _. Comes from_take plan start new.shown (with_at live new)) (Stops plan start new.shown)
 goes_calls live s new (Ok done) (a, b, cii, wc, asks) =
     let x = goes_cii live s _ refl refl a (Ok tt) cii in
     let y = goes_wc (with_at live a) x.2 _ _ refl refl x.3 b (Ok tt) wc in
@@ -229,12 +229,12 @@ goes_calls live s new (Err ended) (inr (inr (a, b, cii, wc, asks))) =
     goes_ask (with_at live b) y.2 _ _ refl refl y.3 new (Err ended) asks
 
 -- ---- datagrams
-pub goes_land : (live : Live) {run : RelayRun} {start now : Shown} {history : History} {peer : ℕ} {bytes : List ℕ}
-    → Stands run start now live.relay (stood live (Taken peer bytes)) (Took peer bytes ∷ history)
-    → Knows run live.relay history → is_some (request_in bytes) ≡ false → (new : At)
+pub goes_land : (live : Live) {plan : Plan} {start now : Shown} {history : History} {peer : ℕ} {bytes : List ℕ}
+    → Stands plan start now live.relay (stood live (Taken peer bytes)) (Took peer bytes ∷ history)
+    → Knows plan live.relay history → is_some (request_in bytes) ≡ false → (new : At)
     (result : Result (Unit {0}) Driven)
     → MatchResult result (λ _. Lands bytes (now_at now live) new) (FailsLanding None (now_at now live) new)
-    → MatchResult result (λ _. IsAt (λ f. Served) run start new.shown (with_at live new)) (Stops run start new.shown)
+    → MatchResult result (λ _. IsAt (λ f. Served) plan start new.shown (with_at live new)) (Stops plan start new.shown)
 goes_land live {peer = peer} s k none new (Ok done) l = (
   _,
   record {
@@ -243,51 +243,51 @@ goes_land live {peer = peer} s k none new (Ok done) l = (
   },
 )
 goes_land live s k none new (Err ended) (inl f) = steps.stops_by_fault s.runs (steps.lawful s.knows) f
-goes_land live {run} s k none new (Err ended) (inr (clocked, awake, read, e)) =
+goes_land live {plan} s k none new (Err ended) (inr (clocked, awake, read, e)) =
     steps.stops_by_memory (steps.lands {live = live} {clocked = clocked} s.runs none (has_read live read))
     (lawful_plain (Clock why.Land clocked.reading) _ (steps.lawful (steps.knows_read (has_read live read) s.knows)) refl
     refl) ended e
 
 -- ---- the television's session
-module _ (live : Live) {run : RelayRun} {start now : Shown} {history : History}
-    (s : Stands run start now live.relay (stood live (welcomed (facts_in live))) history) (new : At) where
+module _ (live : Live) {plan : Plan} {start now : Shown} {history : History}
+    (s : Stands plan start now live.relay (stood live (welcomed (facts_in live))) history) (new : At) where
   -- whether a text came, which the relay publishes
   abbrev pub HearsSo : Bool → Type 0
-  HearsSo true = (h : History) × Stands run start new.shown (with_companion live.relay new.companion)
+  HearsSo true = (h : History) × Stands plan start new.shown (with_companion live.relay new.companion)
       (published (relayed_state live.relay.wc_url new.companion.state) (facts_in (with_at live new))) h
-  HearsSo false = IsAt (λ f. Asked f.peers) run start new.shown (with_at live new)
+  HearsSo false = IsAt (λ f. Asked f.peers) plan start new.shown (with_at live new)
 
   module _ (p : ℕ) (e : live.own.cii_open ≡ Some p) where
-    asked : Stands run start now live.relay (stood live (Welcomed p)) history
+    asked : Stands plan start now live.relay (stood live (Welcomed p)) history
     asked = steps.asked_next live s (Some p) e
 
     its_kind : kind_of p history ≡ Some kind.Cii
     its_kind = steps.its_kind s.runs e
 
     quiet : companions.Adds now new.shown (Quiet p ∷ [])
-        → Runs run start new.shown (stood live (Asked live.peers.items)) (Quiet p ∷ history)
+        → Runs plan start new.shown (stood live (Asked live.peers.items)) (Quiet p ∷ history)
     quiet a = (steps.stands_on asked (Quiet p) (answer.Quiet, refl) tt (λ x. (x.0, x.0, x.2)) a).runs
 
     closed : companions.Adds now new.shown (Closed p ∷ [])
-        → Runs run start new.shown (stood (record live { own = companions.without p live.own })
+        → Runs plan start new.shown (stood (record live { own = companions.without p live.own })
         (Asked live.peers.items)) (Closed p ∷ history)
     closed a =
         let none : still live.own.cii_open p ≡ None =
         ap (λ o. still o p) e ∙ ap (λ b. unless b (Some p)) (eq-eqb p p refl) in
-        subst (λ (o : Option ℕ). Runs run start new.shown (record {
+        subst (λ (o : Option ℕ). Runs plan start new.shown (record {
           facts = record (facts_in live) { television = o };
           place = Asked live.peers.items;
         }) (Closed p ∷ history)) (sym none) (steps.stands_on asked (Closed p) (answer.Closed, refl)
         (ap is_ts its_kind) (λ x. (x.0, x.0, tt)) a).runs
 
     -- it told no text
-    silent : (said : Answer) → Runs run start new.shown (stood (record live { own = with_answer p said live.own })
+    silent : (said : Answer) → Runs plan start new.shown (stood (record live { own = with_answer p said live.own })
         (Asked live.peers.items)) (heard_entries p said ++ history)
         → Hears session.Cii p said (now_at now live) new → HearsSo false
     silent said r h = (
       heard_entries p said ++ history,
       record {
-        runs = subst (λ own. Runs run start new.shown (stood (record live { own = own }) (Asked live.peers.items))
+        runs = subst (λ own. Runs plan start new.shown (stood (record live { own = own }) (Asked live.peers.items))
             (heard_entries p said ++ history)) (sym h.live) r;
         knows = steps.learns s.knows (λ own k. (h.known own history its_kind k).1);
       },
@@ -298,7 +298,7 @@ module _ (live : Live) {run : RelayRun} {start now : Shown} {history : History}
     heard answer.Closed h = silent answer.Closed (closed h.called) h
     heard (answer.Text text) h = (
       _,
-      subst (λ own. Stands run start new.shown (with_companion live.relay new.companion)
+      subst (λ own. Stands plan start new.shown (with_companion live.relay new.companion)
           (published (relayed_state live.relay.wc_url new.companion.state) (facts_in (record live { own = own }))) (Heard p text ∷ history))
           (sym h.live) (steps.taken_in live p asked text h.called (h.known _ history its_kind s.knows.companion).0 _
           (steps.learns s.knows (λ own k. (h.known own history its_kind k).1))),
@@ -309,7 +309,7 @@ module _ (live : Live) {run : RelayRun} {start now : Shown} {history : History}
     memory _ r = absurd r
 
     refused : (said : Answer) (ended : Driven) → companions.Adds now new.shown (heard_entries p said)
-        → IsRefusal (refusal_by session.Cii said history) ended → Stops run start new.shown ended
+        → IsRefusal (refusal_by session.Cii said history) ended → Stops plan start new.shown ended
     refused answer.Quiet ended a r =
         steps.stops_by_memory (quiet a) (lawful_plain (Quiet p) history (steps.lawful s.knows) refl refl) ended
         (memory ended r)
@@ -320,9 +320,9 @@ module _ (live : Live) {run : RelayRun} {start now : Shown} {history : History}
 
   pub goes_hear : (o : Option ℕ) → live.own.cii_open ≡ o → (result : Result Bool Driven)
       → HearsOnce None session.Cii o (now_at now live) new result
-      → MatchResult result HearsSo (Stops run start new.shown)
+      → MatchResult result HearsSo (Stops plan start new.shown)
   goes_hear None e (Ok told) x =
-      subst HearsSo (sym x.0) (subst (λ (a : At). IsAt (λ f. Asked f.peers) run start a.shown (with_at live a)) (sym x.1)
+      subst HearsSo (sym x.0) (subst (λ (a : At). IsAt (λ f. Asked f.peers) plan start a.shown (with_at live a)) (sym x.1)
       (steps.here (steps.asked_next live s None e)))
   goes_hear None e (Err ended) never = absurd never
   goes_hear (Some p) e (Ok told) (said, h, is) = subst HearsSo (sym is) (heard p e said h)

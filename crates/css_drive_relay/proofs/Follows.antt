@@ -19,7 +19,7 @@ use Rattle.css_drive_relay.specs.Places.{Place, Begins, Begun, Called, Requested
 use Rattle.css_drive_relay.specs.Places.{Served, Greeting, Rejecting, Welcomed, Refused, Telling, Asked, Dropping, Over}
 use Rattle.css_drive_relay.specs.Places.{Facts, Progress, progress_of}
 use Rattle.css_drive_relay.specs.Due.{due_at, IsProperRelay, due}
-use Rattle.css_drive_relay.specs.declared.config.RelayRun.{RelayRun}
+use Rattle.css_drive_relay.specs.declared.plan.Plan.{Plan}
 use Rattle.css_drive.specs.Ends.{MayEnd}
 use Rattle.css_drive.specs.declared.driven.Driven.{Driven}
 use Rattle.css_relay.specs.Answers.{Ticket, received_after, answered_after}
@@ -87,119 +87,119 @@ IsOver (Over left) = ⊤
 IsOver _ = ⊥
 
 -- there is no other turn
-abbrev pub IsMade : RelayRun → Facts → Type 0
-IsMade run f = goes_on run.limit f.first f.turn f.turns ≡ false
+abbrev pub IsMade : Plan → Facts → Type 0
+IsMade plan f = goes_on plan.run.limit f.first f.turn f.turns ≡ false
 
 -- either is so
-abbrev pub HasEnded : RelayRun → Facts → Place → Type 0
-HasEnded run f place = IsOver place ⊎ IsMade run f
+abbrev pub HasEnded : Plan → Facts → Place → Type 0
+HasEnded plan f place = IsOver place ⊎ IsMade plan f
 
 -- whether a dial succeeded
 abbrev pub reached : Facts → Bool
 reached f = is_some f.cii || is_some f.wc
 
 -- ---- what is due
-abbrev pub FitsClock : RelayRun → Facts → Place → Why → Type 0
-FitsClock run f place why.Turn = IsRest place × (f.turns < most_turns run.limit)
-FitsClock run f place why.Ask = IsRest place
-FitsClock run f place why.Give = IsReceived place
-FitsClock run f place _ = IsTaken place
+abbrev pub FitsClock : Plan → Facts → Place → Why → Type 0
+FitsClock plan f place why.Turn = IsRest place × (f.turns < most_turns plan.run.limit)
+FitsClock plan f place why.Ask = IsRest place
+FitsClock plan f place why.Give = IsReceived place
+FitsClock plan f place _ = IsTaken place
 
 abbrev pub FitsDial : Place → Kind → Type 0
 FitsDial place kind.Ts = ⊥
 FitsDial place _ = (waiting place ≡ []) × IsRest place
 
 -- what a place is at which this is due
-abbrev pub Fits : RelayRun → Facts → Place → Due → Type 0
-Fits run f place (Now w) = (waiting place ≡ []) × IsTimed place × FitsClock run f place w
-Fits run f place (Dial k to) = FitsDial place k
-Fits run f place (SendDatagram peer bytes) = (waiting place ≡ []) × IsToSend place bytes
-Fits run f place TakeDatagram = (waiting place ≡ []) × ⊤
-Fits run f place (SendText peer text) = IsToTell f place peer text
-Fits run f place (HangUp peer) = (waiting place ≡ []) × (IsDropped place ⊎ HasEnded run f place)
-Fits run f place (Ends driven.Done) = (waiting place ≡ []) × HasEnded run f place × (reached f ≡ true)
-Fits run f place (Ends (driven.Unreachable count)) =
-    (waiting place ≡ []) × HasEnded run f place × (reached f ≡ false) × (count ≡ f.turns)
-Fits run f place _ = (waiting place ≡ []) × IsRest place
+abbrev pub Fits : Plan → Facts → Place → Due → Type 0
+Fits plan f place (Now w) = (waiting place ≡ []) × IsTimed place × FitsClock plan f place w
+Fits plan f place (Dial k to) = FitsDial place k
+Fits plan f place (SendDatagram peer bytes) = (waiting place ≡ []) × IsToSend place bytes
+Fits plan f place TakeDatagram = (waiting place ≡ []) × ⊤
+Fits plan f place (SendText peer text) = IsToTell f place peer text
+Fits plan f place (HangUp peer) = (waiting place ≡ []) × (IsDropped place ⊎ HasEnded plan f place)
+Fits plan f place (Ends driven.Done) = (waiting place ≡ []) × HasEnded plan f place × (reached f ≡ true)
+Fits plan f place (Ends (driven.Unreachable count)) =
+    (waiting place ≡ []) × HasEnded plan f place × (reached f ≡ false) × (count ≡ f.turns)
+Fits plan f place _ = (waiting place ≡ []) × IsRest place
 
 -- a turn is left
-pub one_more : (run : RelayRun) (f : Facts) → goes_on run.limit f.first f.turn f.turns ≡ true
-    → f.turns < most_turns run.limit
-one_more run f on =
-    let more = (and_parts (nat_lt f.turns (most_turns run.limit)) (not (is_late run.limit f.first f.turn)) on).0 in
+pub one_more : (plan : Plan) (f : Facts) → goes_on plan.run.limit f.first f.turn f.turns ≡ true
+    → f.turns < most_turns plan.run.limit
+one_more plan f on =
+    let more = (and_parts (nat_lt f.turns (most_turns plan.run.limit)) (not (is_late plan.run.limit f.first f.turn)) on).0 in
     grind (arith, nat_tests, more)
 
-pub fits : (run : RelayRun) (f : Facts) (history : History) (place : Place)
-    → Fits run f place (due_at run f history place)
-fits run f history Begins = grind arith
-fits run f history Begun = grind arith
-fits run f history (Called k) = grind arith
-fits run f history (Asking reading) = grind arith
-fits run f history (Taken peer bytes) = grind arith
-fits run f history (Received peer ticket) = grind arith
-fits run f history (Answers peer datagram) = grind arith
-fits run f history Requested = grind arith
-fits run f history Served = grind arith
-fits run f history (Greeting peer) = grind arith
-fits run f history (Rejecting peer) = grind arith
-fits run f history (Welcomed peer) = grind arith
-fits run f history (Refused fault) = grind arith
-fits run f history (Telling text left) = grind (arith, nat_tests)
-fits run f history (Asked left) = grind (arith, nat_tests)
-fits run f history (Dropping peer left) = grind arith
-fits run f history (Over left) = grind arith
+pub fits : (plan : Plan) (f : Facts) (history : History) (place : Place)
+    → Fits plan f place (due_at plan f history place)
+fits plan f history Begins = grind arith
+fits plan f history Begun = grind arith
+fits plan f history (Called k) = grind arith
+fits plan f history (Asking reading) = grind arith
+fits plan f history (Taken peer bytes) = grind arith
+fits plan f history (Received peer ticket) = grind arith
+fits plan f history (Answers peer datagram) = grind arith
+fits plan f history Requested = grind arith
+fits plan f history Served = grind arith
+fits plan f history (Greeting peer) = grind arith
+fits plan f history (Rejecting peer) = grind arith
+fits plan f history (Welcomed peer) = grind arith
+fits plan f history (Refused fault) = grind arith
+fits plan f history (Telling text left) = grind (arith, nat_tests)
+fits plan f history (Asked left) = grind (arith, nat_tests)
+fits plan f history (Dropping peer left) = grind arith
+fits plan f history (Over left) = grind arith
 
 -- ---- entries
 -- what the place was that an entry leaves
-abbrev pub Follows : RelayRun → Facts → Place → Entry → Type 0
-Follows run f place Slept = (waiting place ≡ []) × IsTimed place
-Follows run f place (Clock w reading) = (waiting place ≡ []) × IsTimed place × FitsClock run f place w
-Follows run f place (Dialling k to) = FitsDial place k
-Follows run f place (Dialled k peer) = FitsDial place k
-Follows run f place (NotDialled k) = FitsDial place k
-Follows run f place (Sent peer bytes) = (waiting place ≡ []) × IsToSend place bytes
-Follows run f place (Took peer bytes) = (waiting place ≡ []) × ⊤
-Follows run f place TookNone = (waiting place ≡ []) × ⊤
-Follows run f place (Wrote peer text) = IsToTell f place peer text
-Follows run f place (Gone peer) = (text : List ℕ) × IsToTell f place peer text
-Follows run f place (HungUp peer) = (waiting place ≡ []) × (IsDropped place ⊎ HasEnded run f place)
-Follows run f place _ = (waiting place ≡ []) × IsRest place
+abbrev pub Follows : Plan → Facts → Place → Entry → Type 0
+Follows plan f place Slept = (waiting place ≡ []) × IsTimed place
+Follows plan f place (Clock w reading) = (waiting place ≡ []) × IsTimed place × FitsClock plan f place w
+Follows plan f place (Dialling k to) = FitsDial place k
+Follows plan f place (Dialled k peer) = FitsDial place k
+Follows plan f place (NotDialled k) = FitsDial place k
+Follows plan f place (Sent peer bytes) = (waiting place ≡ []) × IsToSend place bytes
+Follows plan f place (Took peer bytes) = (waiting place ≡ []) × ⊤
+Follows plan f place TookNone = (waiting place ≡ []) × ⊤
+Follows plan f place (Wrote peer text) = IsToTell f place peer text
+Follows plan f place (Gone peer) = (text : List ℕ) × IsToTell f place peer text
+Follows plan f place (HungUp peer) = (waiting place ≡ []) × (IsDropped place ⊎ HasEnded plan f place)
+Follows plan f place _ = (waiting place ≡ []) × IsRest place
 
-abbrev pub Followed : RelayRun → History → Type 0
-Followed run h = Each (λ entry older. Follows run (progress_of run older).facts (progress_of run older).place entry) h
+abbrev pub Followed : Plan → History → Type 0
+Followed plan h = Each (λ entry older. Follows plan (progress_of plan older).facts (progress_of plan older).place entry) h
 
-module _ (run : RelayRun) (older : History) (each : Followed run older) where
+module _ (plan : Plan) (older : History) (each : Followed plan older) where
   abbrev After : History → Type 0
-  After call = Followed run (call ++ older)
+  After call = Followed plan (call ++ older)
 
-  added : (d : Due) → Fits run (progress_of run older).facts (progress_of run older).place d → (call : History)
+  added : (d : Due) → Fits plan (progress_of plan older).facts (progress_of plan older).place d → (call : History)
       → MayAdd d call → After call
   added d fits call may = grind (arith, fits, may, each)
 
 -- each entry of a proper run is so
-pub followed : (run : RelayRun) (h : History) → IsProperRelay run h → Followed run h
-followed run [] Empty = tt
-followed run h (More {older} call may proper) =
-    let p : Progress = progress_of run older in
-    added run older (followed run older proper) (due_at run p.facts older p.place) (fits run p.facts older p.place) call
+pub followed : (plan : Plan) (h : History) → IsProperRelay plan h → Followed plan h
+followed plan [] Empty = tt
+followed plan h (More {older} call may proper) =
+    let p : Progress = progress_of plan older in
+    added plan older (followed plan older proper) (due_at plan p.facts older p.place) (fits plan p.facts older p.place) call
     may
 
 -- ---- places to which entries lead
 module _ (P : Place → Type 0) where
   -- what holds of these places holds of each to which this leads
-  pub on_received : (run : RelayRun) (reading : ℕ) (older : History) (place : Place)
+  pub on_received : (plan : Plan) (reading : ℕ) (older : History) (place : Place)
       → ((IsTaken place → ⊥) → P place) → P Served
       → ((peer : ℕ) (bytes : List ℕ) (ticket : Ticket)
-      → received_after run.companion.local older reading bytes ≡ Ok ticket → P (Received peer ticket))
-      → P (places.received_at run reading older place)
-  on_received run reading older place other served received = grind (arith, other, served, received)
+      → received_after plan.run.companion.local older reading bytes ≡ Ok ticket → P (Received peer ticket))
+      → P (places.received_at plan reading older place)
+  on_received plan reading older place other served received = grind (arith, other, served, received)
 
-  pub on_answered : (run : RelayRun) (reading : ℕ) (older : History) (place : Place)
+  pub on_answered : (plan : Plan) (reading : ℕ) (older : History) (place : Place)
       → ((IsReceived place → ⊥) → P place) → P Served
       → ((peer : ℕ) (ticket : Ticket) (message : Message) → place ≡ Received peer ticket
-      → answered_after run.companion.local older reading ticket ≡ Ok message → P (Answers peer (encoded message)))
-      → P (places.answered_at run reading older place)
-  on_answered run reading older place other served answers = grind (arith, other, served, answers)
+      → answered_after plan.run.companion.local older reading ticket ≡ Ok message → P (Answers peer (encoded message)))
+      → P (places.answered_at plan reading older place)
+  on_answered plan reading older place other served answers = grind (arith, other, served, answers)
 
 -- how many turns were begun, and the readings of the first and the last one
 abbrev pub Turns : Type 0
@@ -214,20 +214,20 @@ made_of h = (turns h, first_turn h, this_turn h)
 
 -- These turns were begun, and no more than there are to be; all of them where the turns are over. And whether a dial
 -- succeeded.
-pub record Counts (run : RelayRun) (h : History) (p : Progress) : Type 0 where
+pub record Counts (plan : Plan) (h : History) (p : Progress) : Type 0 where
   pub turns : begun p.facts ≡ made_of h
-  pub few : p.facts.turns ≤ most_turns run.limit
-  pub over : IsOver p.place → IsMade run p.facts
+  pub few : p.facts.turns ≤ most_turns plan.run.limit
+  pub over : IsOver p.place → IsMade plan p.facts
   pub dialled : reached p.facts ≡ any_dialled h
 
-abbrev pub Good : RelayRun → History → Type 0
-Good run h = Counts run h (progress_of run h)
+abbrev pub Good : Plan → History → Type 0
+Good plan h = Counts plan h (progress_of plan h)
 
-module _ (run : RelayRun) (older : History) (t : Good run older) where
+module _ (plan : Plan) (older : History) (t : Good plan older) where
   abbrev p : Progress
-  p = progress_of run older
+  p = progress_of plan older
 
-  after : (entry : Entry) → Follows run p.facts p.place entry → Good run (entry ∷ older)
+  after : (entry : Entry) → Follows plan p.facts p.place entry → Good plan (entry ∷ older)
   after entry c = record {
     turns = let was = t.turns in grind (arith, was, c);
     few = let few = t.few in grind (arith, nat_tests, few, c);
@@ -235,28 +235,28 @@ module _ (run : RelayRun) (older : History) (t : Good run older) where
     dialled = let was = t.dialled in grind (arith, was, c);
   }
 
-all_good : (run : RelayRun) (h : History) → Followed run h → Good run h
-all_good run [] each = record { turns = refl; few = omega arith; over = λ e. absurd e; dialled = refl }
-all_good run (entry ∷ older) each = after run older (all_good run older each.1) entry each.0
+all_good : (plan : Plan) (h : History) → Followed plan h → Good plan h
+all_good plan [] each = record { turns = refl; few = omega arith; over = λ e. absurd e; dialled = refl }
+all_good plan (entry ∷ older) each = after plan older (all_good plan older each.1) entry each.0
 
 -- ---- the end
-has_made_all : (run : RelayRun) (h : History) → Good run h
-    → HasEnded run (progress_of run h).facts (progress_of run h).place
-    → HasMadeAll run h
-has_made_all run h t ended =
+has_made_all : (plan : Plan) (h : History) → Good plan h
+    → HasEnded plan (progress_of plan h).facts (progress_of plan h).place
+    → HasMadeAll plan h
+has_made_all plan h t ended =
     let turns = t.turns in
     let few = t.few in
     let over = t.over in grind (arith, nat_tests, turns, few, over, ended)
 
-is_made : (run : RelayRun) (h : History) (ended : Driven) → Good run h
-    → Fits run (progress_of run h).facts (progress_of run h).place (due run h) → MayEnd (due run h) ended
-    → MadeTurns run h ended
-is_made run h ended t c ends =
+is_made : (plan : Plan) (h : History) (ended : Driven) → Good plan h
+    → Fits plan (progress_of plan h).facts (progress_of plan h).place (due plan h) → MayEnd (due plan h) ended
+    → MadeTurns plan h ended
+is_made plan h ended t c ends =
     let turns = t.turns in
     let dialled = t.dialled in
-    let made = has_made_all run h t in grind (arith, ends, c, turns, dialled, made)
+    let made = has_made_all plan h t in grind (arith, ends, c, turns, dialled, made)
 
 pub turns_are_made : TurnsAreMade
-turns_are_made run h ended proper ends =
-    let p : Progress = progress_of run h in
-    is_made run h ended (all_good run h (followed run h proper)) (fits run p.facts h p.place) ends
+turns_are_made plan h ended proper ends =
+    let p : Progress = progress_of plan h in
+    is_made plan h ended (all_good plan h (followed plan h proper)) (fits plan p.facts h p.place) ends

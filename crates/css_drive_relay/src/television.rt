@@ -1,11 +1,11 @@
 //! The calls that a relay makes of the television, by the stages of a companion's run. Nobody observes that run.
-ghost use Rattle.std.specs.Prelude.{◌≡◌, ◌≤◌, MatchResult, OnOk, None};
+ghost use Rattle.std.specs.Prelude.{◌≡◌, ◌≤◌, OnOk, None};
 ghost use Rattle.css_outside.specs.Faults.{HasRisen};
 ghost use Rattle.css_drive.specs.CompanionStanding as companions;
 ghost use Rattle.css_drive.specs.CompanionStanding.{shown, Calls, HasRead};
-ghost use Rattle.css_drive.specs.Stages.{Lands, FailsLanding, HearsOnce, at, at_of};
+ghost use Rattle.css_drive.specs.Stages.{HearsOnce, at, at_of};
 ghost use Rattle.css_drive.specs.declared.session.Session.TheVariants as sessions;
-ghost use Rattle.css_drive_relay.specs.Standing.{DialsAndAsks, Stays};
+ghost use Rattle.css_drive_relay.specs.Standing.{DialsAndAsks, HasDialled, Stays, UnlessFault};
 
 use css_companion::Companion;
 use css_drive::{Driven, Live as Own, Run, Session};
@@ -45,8 +45,8 @@ fn dial_and_ask_in<O: Outside>(
 ) -> Result<(), Driven>
     requires { run.old.companion.now.client.floor ≤ (O.counts run.old.outside.now).last }
     ensures called { DialsAndAsks cii.now every (at O.told O.counts run.old) (at O.told O.counts run.new) result }
-    ensures tried { OnOk result (run.new.live.now.cii ≡ None
-        → HasRisen (O.counts run.old.outside.now).dial_faults (O.counts run.new.outside.now).dial_faults) }
+    ensures tried { UnlessFault (HasDialled (O.counts run.old.outside.now) (O.counts run.new.outside.now)
+        run.new.live.now) result }
     ensures stays { companions.Stays O.counts run.old run.new result }
 {
     run.dial_cii(cii)?;
@@ -68,8 +68,7 @@ pub fn dial_and_ask<O: Outside>(
     ensures called { DialsAndAsks cii.now every
         (at_of (shown (O.told outside.old) (O.counts outside.old)) own.old companion.old)
         (at_of (shown (O.told outside.new) (O.counts outside.new)) own.new companion.new) result }
-    ensures tried { OnOk result (own.new.cii ≡ None
-        → HasRisen (O.counts outside.old).dial_faults (O.counts outside.new).dial_faults) }
+    ensures tried { UnlessFault (HasDialled (O.counts outside.old) (O.counts outside.new) own.new) result }
     ensures stays { Stays (O.counts outside.old) (O.counts outside.new) own.old own.new companion.old companion.new
         result }
 {
@@ -81,33 +80,6 @@ pub fn dial_and_ask<O: Outside>(
         live: own,
     };
     dial_and_ask_in(&mut run, cii, every)
-}
-
-/// Lands a datagram that was just taken.
-pub fn land<O: Outside>(
-    alloc: Global,
-    companion: &mut Companion,
-    outside: &mut O,
-    own: &mut Own,
-    bytes: &[u8],
-) -> Result<(), Driven>
-    requires { companion.old.client.floor ≤ (O.counts outside.old).last }
-    ensures called { MatchResult result (λ _. Lands bytes.now
-        (at_of (shown (O.told outside.old) (O.counts outside.old)) own.old companion.old)
-        (at_of (shown (O.told outside.new) (O.counts outside.new)) own.new companion.new))
-        (FailsLanding None (at_of (shown (O.told outside.old) (O.counts outside.old)) own.old companion.old)
-        (at_of (shown (O.told outside.new) (O.counts outside.new)) own.new companion.new)) }
-    ensures stays { Stays (O.counts outside.old) (O.counts outside.new) own.old own.new companion.old companion.new
-        result }
-{
-    let mut run = Run {
-        alloc,
-        companion,
-        outside,
-        observer: &mut (),
-        live: own,
-    };
-    run.land(bytes)
 }
 
 /// Hears the session of CSS-CII, where it is open, and tells whether a text came.

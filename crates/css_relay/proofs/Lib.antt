@@ -4,4 +4,5 @@ pub mod Exponents
 pub mod Readings
 pub mod Responses
 pub mod ReadBack
+mod Agreeing
 pub mod TwoHops

@@ -29,7 +29,7 @@ turns-preserved g c =
 
 pub turn-requires-clause-few : goal.turn-requires-clause-few
 turn-requires-clause-few g c =
-    below_most _ _ _ _ c.args.run.now.limit_range (sym c.goes_on.ensures ∙ c.turns-test.true)
+    below_most _ _ _ _ c.args.plan.now.limit_range (sym c.goes_on.ensures ∙ c.turns-test.true)
 
 pub returns-in-Err-clause-counted : goal.returns-in-Err-clause-counted
 returns-in-Err-clause-counted g c =
@@ -43,9 +43,9 @@ returns-clause-ends g c start h s =
 pub returns-clause-counted : goal.returns-clause-counted
 returns-clause-counted g c =
     let i = c.turns.invariant in
-    let run = c.args.run.now in
+    let plan = c.args.plan.now in
     let live = c.turns.live in
-    let some = steps.was_begun run.limit run.limit_range live.own.first live.own.turn live.own.made i.begun
+    let some = steps.was_begun plan.run.limit plan.limit_range live.own.first live.own.turn live.own.made i.begun
     (sym c.goes_on.ensures ∙ c.turns-test.false) in
     steps.ending_so (facts_in live) _ _ (omega (arith, i.dials, c.finish.ensures.dials))
     (λ none. risen_to _ _ _ c.finish.ensures.dials (i.tried some none)) _ c.finish.ensures.kind
