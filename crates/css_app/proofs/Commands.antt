@@ -54,6 +54,7 @@ use Rattle.css_replay.specs.Replayed.{replayed}
 use Rattle.css_replay.proofs.OverLines.{EndsLines, IsOfLine, line_ends}
 use Rattle.css_app.specs.declared.inputs.NoLine.{NoLine}
 use Rattle.css_app.specs.declared.inputs.ScriptLines.{ScriptLines}
+use Rattle.css_drive_relay.specs.Ran.{IsRelayEnd}
 use Rattle.css_app.specs.Commands.{Does, OfAsked}
 use Rattle.css_app.specs.Ended.{Stands, Writes, agree_refused, audit_refused, line_in, line_refused, script_in}
 use Rattle.css_app.specs.Ended.{script_lines, script_of_lines, unless_refused, why_of}
@@ -105,6 +106,16 @@ as_due history ended told is_proper ends wrote called nw nc =
 -- no write was to be made
 pub no_write : HasNotFailed 0 0
 no_write = record { below = omega arith; same = refl }
+
+-- ---- a relay
+-- over an outside that didn't fail its last turn was made, or memory ran out
+pub relay_last : {c c' : ℕ} (ended : Driven) → IsRelayEnd ended → CountsNetFault c c' ended → HasNotFailed c c'
+    → EndsAtLastUnlessMemory (driven_status ended)
+relay_last ended kind called nc = grind (arith, common_steps, kind, called, nc)
+
+-- it writes nothing
+pub relay_writes : {ended : Driven} → IsRelayEnd ended → ended ≢ driven.WriteFault
+relay_writes kind e = subst IsRelayEnd e kind
 
 -- ---- a watch
 pub watched_tells : {r w w' s : ℕ} {c c' : Counts} (ended : Watched) → visits.CountsWriteFault w w' ended

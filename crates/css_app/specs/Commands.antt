@@ -10,8 +10,6 @@ use Rattle.css_drive.specs.TvDue.{run_of}
 use Rattle.css_drive.specs.declared.config.DriveConfig.{DriveConfig}
 use Rattle.css_drive.specs.declared.driven.Driven.{Driven}
 use Rattle.css_drive.specs.declared.tv_config.TvDrive.{TvDrive}
-use Rattle.css_drive_relay.specs.Due as relay
-use Rattle.css_drive_relay.specs.Due.{IsProperRelay}
 use Rattle.css_drive_relay.specs.Ran.{RelayRan}
 use Rattle.css_drive_relay.specs.declared.config.RelayRun.{RelayRun}
 use Rattle.css_follow.specs.Sheets.{sheet_in}
@@ -39,7 +37,7 @@ use Rattle.css_replay.specs.Ended.{ByReplay, HasNotFailed, IsDoneUnlessMemory, O
 use Rattle.css_app.specs.declared.live_pair.Child.{Child}
 use Rattle.css_app.specs.Ended.{Writes, agree_refused, audit_refused, line_refused, script_in}
 use Rattle.css_app.specs.Live.{AreLeft, ArePairedAsDue, AreUntouched, EndsAtLastUnlessMemory, FollowersUse, HasNoScript}
-use Rattle.css_app.specs.Live.{HasNoSheet, IsAsDue, IsMadeAsDue, MakesWatch, OutsideUse, PairsByScript, RunsBySheet}
+use Rattle.css_app.specs.Live.{HasNoSheet, IsAsDue, MakesWatch, OutsideUse, PairsByScript, RunsBySheet}
 use Rattle.css_app.specs.Live.{Serves, ServesAsDue, SpawnerUse, Uses, address_at, driven_status, unused}
 
 -- what a command line asks for
@@ -224,14 +222,13 @@ pub record IsAskedRelay (asked : RelayAsked) (run : RelayRun) : Type 0 where
   pub local_error : run.companion.local.error ≡ asked.local_error
   pub local_precision : run.companion.local.precision ≡ asked.local_precision
 
--- Each call of the outside is the one that is due by what came, and the status says how the run ended.
+-- The calls of the outside are those of visits, one after another, each of which is due by what came in its visit. The
+-- status says how the run ended.
 pub record ByRelay (asked : RelayAsked) (outside : OutsideUse) (result : Status) : Type 0 where
   pub ran : OfAsked ((outside.told_new ≡ outside.told_old) × (result ≡ status.Memory)) (IsAskedRelay asked)
       (λ run. (ended : Driven) × RelayRan run outside.told_old outside.told_new ended × (result ≡ driven_status ended))
-  -- over an outside that doesn't fail, dials aside, a run ends as its calls say
-  pub complete : HasNotFailed outside.faults_old outside.faults_new
-      → OfAsked (result ≡ status.Memory) (IsAskedRelay asked)
-      (λ run. IsMadeAsDue (IsProperRelay run) (relay.due run) outside.told_old outside.told_new result)
+  -- over an outside that doesn't fail, dials aside, a relay ends at its last turn alone, or after 2^40 visits
+  pub complete : HasNotFailed outside.faults_old outside.faults_new → EndsAtLastUnlessMemory result
 
 -- ---- `watch`
 -- the watch is what the options ask for

@@ -571,7 +571,7 @@ bad_stops {config} {before} {now} {saw} s lawful {over} property told k rest _ g
 
 -- and it is a stage that dials what a property tells
 pub told_err : {T : Type 0} (over : Option OutFault) (k : Kind) (property : CiiName) (old new : At) (ended : Driven)
-    (found told : Option (Result Address AddressFault)) → found ≡ told → new.shown ≡ old.shown
+    (found told : Option (Result Address AddressFault)) → found ≡ told → new ≡ old
     → (result : Result T Driven) → IsErrAnd result (λ x. x ≡ ended) → GivesPlace property found (Err ended)
     → DialsTold over k property None told old new result
 told_err over k property old new ended found told e same result is g =
@@ -583,6 +583,6 @@ told_err over k property old new ended found told e same result is g =
 
     by : (found : Option (Result Address AddressFault)) → GivesPlace property found (Err ended)
         → DialsTold over k property None found old new result
-    by (Some (Ok to)) g = at_err _ _ _ result is (inr (same, memory to ended g))
+    by (Some (Ok to)) g = at_err _ _ _ result is (inr (ap {A = At} (λ x. x.shown) same, memory to ended g))
     by None g = at_err _ _ _ result is (same, g)
     by (Some (Err bad)) g = at_err _ _ _ result is (same, g)

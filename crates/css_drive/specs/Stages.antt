@@ -68,7 +68,7 @@ DialsTold over kind property None (Some (Ok to)) old new result =
     (λ ended. Fails old.shown new.shown over ended ⊎ ((new.shown ≡ old.shown) × (ended ≡ driven.Memory)))
 DialsTold over kind property None told old new result =
     MatchResult result (λ _. (told ≡ None) × (new ≡ old))
-    (λ ended. (new.shown ≡ old.shown) × GivesPlace property told (Err ended))
+    (λ ended. (new ≡ old) × GivesPlace property told (Err ended))
 
 -- ---- requests
 -- the clock was read for a request, which is known once it is sent
@@ -141,8 +141,8 @@ pub record Hears (which : Session) (peer : ℕ) (said : Answer) (old new : At) :
 -- it wasn't, or its text is refused
 abbrev pub FailsHearing : Option OutFault → Session → ℕ → At → At → Driven → Type 0
 FailsHearing over which peer old new ended = Fails old.shown new.shown over ended
-    ⊎ ((said : Answer) × Adds old.shown new.shown (heard_entries peer said) × ((own : CompanionConfig)
-    (history : History) → kind_of peer history ≡ Some (kind_for which) → Knows own old.companion history
+    ⊎ ((said : Answer) × Adds old.shown new.shown (heard_entries peer said)
+    × (new.live ≡ with_answer peer said old.live) × ((own : CompanionConfig) (history : History) → kind_of peer history ≡ Some (kind_for which) → Knows own old.companion history
     → IsRefusal (refusal_by which said history) ended))
 
 -- a session is asked, where it is open, and whether a text came is told

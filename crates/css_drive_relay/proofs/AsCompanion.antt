@@ -1,12 +1,12 @@
 -- What a relay's run makes of the calls of its companion.
-use Rattle.std.proofs.Common.{◌≡◌, ℕ, ap, ap₂, ◌∙◌, refl, Bool, true, false, cond, [], ◌∷◌, ◌++◌, Option, Some, List}
+use Rattle.std.proofs.Common.{◌≡◌, ℕ, ap, ap₂, ◌∙◌, refl, Bool, true, false, cond, [], ◌∷◌, ◌++◌, Option, Some}
 use Rattle.std.proofs.Common.{None, sym, subst, inl, inr, Result, Ok, Err, eq-eqb}
-use Rattle.std.specs.Prelude.{MatchResult, is_some, ◌&&◌}
+use Rattle.std.specs.Prelude.{MatchResult, is_some, not, ◌&&◌, ◌⊎◌}
 use Rattle.css_model.specs.declared.Kind.{Kind}
 use Rattle.css_model.specs.declared.Kind.TheVariants as kind
 use Rattle.css_model.specs.declared.Why.{Why}
 use Rattle.css_model.specs.declared.Why.TheVariants as why
-use Rattle.css_model.specs.History.{Address, Clock, Closed, Dialled, Heard, History, Quiet, Sent, Took, request_in}
+use Rattle.css_model.specs.History.{Address, Closed, Dialled, Heard, History, Quiet, Sent}
 use Rattle.css_model.specs.Wire.{encoded, request_at}
 use Rattle.css_address.specs.declared.fault.AddressFault.{AddressFault}
 use Rattle.css_cii.specs.declared.name.CiiName.TheVariants.{WcUrl}
@@ -24,7 +24,7 @@ use Rattle.css_drive.specs.CompanionStanding as companions
 use Rattle.css_drive.specs.CompanionStanding.{Shown, GivesPlace, IsRefusal, dial_entries, still}
 use Rattle.css_drive.specs.CompanionTurns.{is_asking, unless}
 use Rattle.css_drive.specs.Proper.{Due, Dial, Now, SendDatagram, TakeDatagram}
-use Rattle.css_drive.specs.Stages.{At, Dials, DialsOnce, DialsTold, with_dial, Reads, AsksOnce, Lands, FailsLanding}
+use Rattle.css_drive.specs.Stages.{At, Dials, DialsOnce, DialsTold, with_dial, Reads, AsksOnce}
 use Rattle.css_drive.specs.Stages.{Hears, HearsOnce, is_text, refusal_by, with_answer, at_of}
 use Rattle.css_drive.specs.declared.companion_live.Live.{Live as Own}
 use Rattle.css_drive.specs.declared.driven.Driven.{Driven}
@@ -32,9 +32,12 @@ use Rattle.css_drive.specs.declared.driven.Driven.TheVariants as driven
 use Rattle.css_drive.specs.declared.session.Session.TheVariants as session
 use Rattle.css_drive.proofs.CompanionSteps.{lawful_plain}
 use Rattle.css_drive_relay.specs.Due.{due_at, from_ask, from_cii, from_take, from_wc}
-use Rattle.css_drive_relay.specs.Places.{Asked, Asking, Begun, Called, Facts, Place, Progress, Requested, Served, Taken}
+use Rattle.css_drive_relay.specs.Places.{Asked, Asking, Begun, Called, Facts, Place, Progress, Requested}
 use Rattle.css_drive_relay.specs.Places.{Welcomed, published, welcomed}
-use Rattle.css_drive_relay.specs.Standing.{Comes, DialsAndAsks, HasRead, IsAt, Knows, Runs, Stands, Stops, facts_in}
+use Rattle.css_drive.specs.declared.parting.Parting.TheVariants as parting
+use Rattle.css_relay.specs.Agreeing.{Agrees}
+use Rattle.std.proofs.lemmas.List.Elements.{All-nil}
+use Rattle.css_drive_relay.specs.Standing.{Came, Comes, DialsAndAsks, HasRead, IsAt, Knows, Runs, Stands, Stops, facts_in}
 use Rattle.css_drive_relay.specs.Standing.{stood}
 use Rattle.css_drive_relay.specs.declared.plan.Plan.{Plan}
 use Rattle.css_drive_relay.specs.declared.live.Live.{Live}
@@ -97,7 +100,7 @@ module _ (live : Live) {plan : Plan} {start now : Shown} {history : History} {sp
       → due_at plan (facts_in live) history spot ≡ from_cii plan (facts_in live) history → (new : At)
       (result : Result (Unit {0}) Driven) → DialsOnce None kind.Cii known plan.run.cii (now_at now live) new result
       → MatchResult result (λ _. Comes (from_wc plan) plan start new.shown (with_at live new))
-      (Stops plan start new.shown)
+      (Stops plan start new.shown (with_at live new))
   goes_cii None e is new (Ok done) d =
       let x = tried kind.Cii plan.run.cii (λ q. refl)
       (is ∙ ap (λ o. dial_first o plan.run.cii (from_wc plan (facts_in live) history)) e) d in
@@ -107,16 +110,17 @@ module _ (live : Live) {plan : Plan} {start now : Shown} {history : History} {sp
       same (from_wc plan) x (is ∙ ap (λ o. dial_first o plan.run.cii (from_wc plan (facts_in live) history)) e)
   goes_cii (Some q) e is new (Err ended) never = absurd never
 
-  stops : (new : At) {ended : Driven} → new.shown ≡ now → Stops plan start now ended → Stops plan start new.shown ended
-  stops new {ended} e x = subst (λ (shown : Shown). Stops plan start shown ended) (sym e) x
+  stops : (new : At) {ended : Driven} → new ≡ now_at now live → Stops plan start now live ended
+      → Stops plan start new.shown (with_at live new) ended
+  stops new {ended} e x = subst (λ (a : At). Stops plan start a.shown (with_at live a) ended) (sym e) x
 
   bad : (told : Option (Result Address AddressFault)) (ended : Driven) → GivesPlace WcUrl told (Err ended)
       → due_at plan (facts_in live) history spot ≡ dial_to None kind.Wc WcUrl told (from_ask plan (facts_in live) history)
-      → Stops plan start now ended
+      → Stops plan start now live ended
   bad told driven.Memory g d = steps.stops_by_memory s.runs (steps.lawful s.knows) driven.Memory refl
   bad told _ g d =
-      subst (λ (x : Driven). Stops plan start now x) (sym g.1) (steps.stops_here s.runs (steps.lawful s.knows)
-      (driven.BadUrl WcUrl) tt
+      subst (λ (x : Driven). Stops plan start now live x) (sym g.1) (steps.stops_here s.runs (steps.lawful s.knows) refl
+      (driven.BadUrl WcUrl) tt tt
       (d ∙ ap (λ x. dial_to None kind.Wc WcUrl x (from_ask plan (facts_in live) history)) g.2))
 
   pub goes_wc : (known : Option ℕ) (told : Option (Result Address AddressFault)) → live.own.wc ≡ known
@@ -124,7 +128,7 @@ module _ (live : Live) {plan : Plan} {start now : Shown} {history : History} {sp
       → due_at plan (facts_in live) history spot ≡ from_wc plan (facts_in live) history → (new : At)
       (result : Result (Unit {0}) Driven) → DialsTold None kind.Wc WcUrl known told (now_at now live) new result
       → MatchResult result (λ _. Comes (from_ask plan) plan start new.shown (with_at live new))
-      (Stops plan start new.shown)
+      (Stops plan start new.shown (with_at live new))
   goes_wc known told e t is new result d = by known told (due known told e t) result d
     where
       rest : Due
@@ -143,14 +147,15 @@ module _ (live : Live) {plan : Plan} {start now : Shown} {history : History} {sp
           → due_at plan (facts_in live) history spot ≡ dial_to known kind.Wc WcUrl told rest
           → (result : Result (Unit {0}) Driven) → DialsTold None kind.Wc WcUrl known told (now_at now live) new result
           → MatchResult result (λ _. Comes (from_ask plan) plan start new.shown (with_at live new))
-          (Stops plan start new.shown)
+          (Stops plan start new.shown (with_at live new))
       by (Some q) told is (Ok done) x = same (from_ask plan) x is
       by (Some q) told is (Err ended) never = absurd never
       by None (Some (Ok to)) is (Ok done) d =
           let x = tried kind.Wc to (λ q. refl) is d in (x.0, Called kind.Wc, x.1, refl)
       by None (Some (Ok to)) is (Err ended) (inl f) = steps.stops_by_fault s.runs (steps.lawful s.knows) f
       by None (Some (Ok to)) is (Err ended) (inr x) =
-          stops new x.0 (steps.stops_by_memory s.runs (steps.lawful s.knows) ended x.1)
+          subst (λ (shown : Shown). Stops plan start shown (with_at live new) ended) (sym x.0)
+          (steps.stops_by_memory s.runs (steps.lawful s.knows) ended x.1)
       by None (Some (Err b)) is (Ok done) x = let never = x.0 in absurd (cc)
       by None (Some (Err b)) is (Err ended) x = stops new x.0 (bad (Some (Err b)) ended x.1 is)
       by None None is (Ok done) x = same (from_ask plan) x.1 is
@@ -166,13 +171,13 @@ module _ (live : Live) {plan : Plan} {start now : Shown} {history : History} {sp
 
   sending : {peer : ℕ} {mid : At} {after : Companion} → (r : Reads peer (now_at now live) mid after)
       → Knows plan (with_companion live.relay after) (Sent peer r.bytes ∷ clock_entries why.Ask r.clocked ++ history)
-  sending r = steps.learns (steps.knows_read (has_read live r.read) s.knows) (λ own. r.known own _)
+  sending r = steps.learns (steps.knows_read (has_read live r.read) s.knows) (λ own. r.known own _) (λ a. a)
 
   pub goes_ask : (known : Option ℕ) (time : Bool) → live.own.wc ≡ known
       → is_asking plan.run.ask_every live.own.turn live.own.asked ≡ time
       → due_at plan (facts_in live) history spot ≡ from_ask plan (facts_in live) history → (new : At)
       (result : Result (Unit {0}) Driven) → AsksOnce None known time (now_at now live) new result
-      → MatchResult result (λ _. Comes from_take plan start new.shown (with_at live new)) (Stops plan start new.shown)
+      → MatchResult result (λ _. Comes from_take plan start new.shown (with_at live new)) (Stops plan start new.shown (with_at live new))
   goes_ask (Some peer) true e time is new (Ok done) r =
       let own = r.reads.read.only in
       let wc = ap {A = Own} (λ x. x.wc) own ∙ e in
@@ -214,7 +219,7 @@ all_three to every old a b cii wc new (Err ended) asks = inr (inr (a, b, cii, wc
 pub goes_calls : (live : Live) {plan : Plan} {start now : Shown} {history : History}
     → Stands plan start now live.relay (stood live Begun) history → (new : At) (result : Result (Unit {0}) Driven)
     → DialsAndAsks plan.run.cii plan.run.ask_every (now_at now live) new result
-    → MatchResult result (λ _. Comes from_take plan start new.shown (with_at live new)) (Stops plan start new.shown)
+    → MatchResult result (λ _. Comes from_take plan start new.shown (with_at live new)) (Stops plan start new.shown (with_at live new))
 goes_calls live s new (Ok done) (a, b, cii, wc, asks) =
     let x = goes_cii live s _ refl refl a (Ok tt) cii in
     let y = goes_wc (with_at live a) x.2 _ _ refl refl x.3 b (Ok tt) wc in
@@ -228,34 +233,46 @@ goes_calls live s new (Err ended) (inr (inr (a, b, cii, wc, asks))) =
     let y = goes_wc (with_at live a) x.2 _ _ refl refl x.3 b (Ok tt) wc in
     goes_ask (with_at live b) y.2 _ _ refl refl y.3 new (Err ended) asks
 
--- ---- datagrams
-pub goes_land : (live : Live) {plan : Plan} {start now : Shown} {history : History} {peer : ℕ} {bytes : List ℕ}
-    → Stands plan start now live.relay (stood live (Taken peer bytes)) (Took peer bytes ∷ history)
-    → Knows plan live.relay history → is_some (request_in bytes) ≡ false → (new : At)
-    (result : Result (Unit {0}) Driven)
-    → MatchResult result (λ _. Lands bytes (now_at now live) new) (FailsLanding None (now_at now live) new)
-    → MatchResult result (λ _. IsAt (λ f. Served) plan start new.shown (with_at live new)) (Stops plan start new.shown)
-goes_land live {peer = peer} s k none new (Ok done) l = (
-  _,
-  record {
-    runs = steps.lands {live = live} {clocked = l.clocked} s.runs none (has_read live l.read);
-    knows = steps.learns k (λ own. l.known own peer _);
-  },
-)
-goes_land live s k none new (Err ended) (inl f) = steps.stops_by_fault s.runs (steps.lawful s.knows) f
-goes_land live {plan} s k none new (Err ended) (inr (clocked, awake, read, e)) =
-    steps.stops_by_memory (steps.lands {live = live} {clocked = clocked} s.runs none (has_read live read))
-    (lawful_plain (Clock why.Land clocked.reading) _ (steps.lawful (steps.knows_read (has_read live read) s.knows)) refl
-    refl) ended e
-
 -- ---- the television's session
 module _ (live : Live) {plan : Plan} {start now : Shown} {history : History}
     (s : Stands plan start now live.relay (stood live (welcomed (facts_in live))) history) (new : At) where
+  -- nothing came, and the session is as it was
+  abbrev pub IsQuiet : At → Type 0
+  IsQuiet a = IsAt (λ f. Asked f.peers) plan start a.shown (with_at live a) × (a.live.cii_open ≡ live.own.cii_open)
+
+  -- the session closed, which ends the visit
+  abbrev pub HasClosed : At → Type 0
+  HasClosed a = ((h : History) × Stands plan start a.shown (with_companion live.relay a.companion) (record {
+    facts = record (facts_in (with_at live a)) { parting = Some (parting.Closed session.Cii) };
+    place = Asked [];
+  }) h) × (is_some live.own.cii_open ≡ true) × (a.live.cii_open ≡ None)
+
   -- whether a text came, which the relay publishes
   abbrev pub HearsSo : Bool → Type 0
   HearsSo true = (h : History) × Stands plan start new.shown (with_companion live.relay new.companion)
       (published (relayed_state live.relay.wc_url new.companion.state) (facts_in (with_at live new))) h
-  HearsSo false = IsAt (λ f. Asked f.peers) plan start new.shown (with_at live new)
+  HearsSo false = IsQuiet new ⊎ HasClosed new
+
+  -- which of the two is told by the session before and after
+  never : (o : Option ℕ) → (is_some o && not (is_some o)) ≡ true → ⊥
+  never None e = absurd (cc)
+  never (Some peer) e = absurd (cc)
+
+  pub closes : IsQuiet new ⊎ HasClosed new → (is_some live.own.cii_open && not (is_some new.live.cii_open)) ≡ true
+      → (h : History) × Stands plan start new.shown (with_companion live.relay new.companion) (record {
+        facts = record (facts_in (with_at live new)) { parting = Some (parting.Closed session.Cii) };
+        place = Asked [];
+      }) h
+  closes (inr c) e = c.0
+  closes (inl q) e =
+      absurd (never live.own.cii_open (subst (λ (o : Option ℕ). (is_some live.own.cii_open && not (is_some o)) ≡ true)
+      q.1 e))
+
+  pub goes_on : IsQuiet new ⊎ HasClosed new → (is_some live.own.cii_open && not (is_some new.live.cii_open)) ≡ false
+      → IsAt (λ f. Asked f.peers) plan start new.shown (with_at live new)
+  goes_on (inl q) e = q.0
+  goes_on (inr c) e =
+      absurd (let f : true ≡ false = sym (ap₂ (λ (b : Bool) (o : Option ℕ). b && not (is_some o)) c.1 c.2) ∙ e in cc)
 
   module _ (p : ℕ) (e : live.own.cii_open ≡ Some p) where
     asked : Stands plan start now live.relay (stood live (Welcomed p)) history
@@ -264,44 +281,66 @@ module _ (live : Live) {plan : Plan} {start now : Shown} {history : History}
     its_kind : kind_of p history ≡ Some kind.Cii
     its_kind = steps.its_kind s.runs e
 
+    none : still live.own.cii_open p ≡ None
+    none = ap (λ o. still o p) e ∙ ap (λ b. unless b (Some p)) (eq-eqb p p refl)
+
     quiet : companions.Adds now new.shown (Quiet p ∷ [])
         → Runs plan start new.shown (stood live (Asked live.peers.items)) (Quiet p ∷ history)
     quiet a = (steps.stands_on asked (Quiet p) (answer.Quiet, refl) tt (λ x. (x.0, x.0, x.2)) a).runs
 
-    closed : companions.Adds now new.shown (Closed p ∷ [])
-        → Runs plan start new.shown (stood (record live { own = companions.without p live.own })
-        (Asked live.peers.items)) (Closed p ∷ history)
-    closed a =
-        let none : still live.own.cii_open p ≡ None =
-        ap (λ o. still o p) e ∙ ap (λ b. unless b (Some p)) (eq-eqb p p refl) in
-        subst (λ (o : Option ℕ). Runs plan start new.shown (record {
-          facts = record (facts_in live) { television = o };
-          place = Asked live.peers.items;
-        }) (Closed p ∷ history)) (sym none) (steps.stands_on asked (Closed p) (answer.Closed, refl)
-        (ap is_ts its_kind) (λ x. (x.0, x.0, tt)) a).runs
+    -- how far the run is once the session closed
+    abbrev over : Own → Progress
+    over own = record {
+      facts = record (facts_in (record live { own = own })) { parting = Some (parting.Closed session.Cii) };
+      place = Asked [];
+    }
 
-    -- it told no text
-    silent : (said : Answer) → Runs plan start new.shown (stood (record live { own = with_answer p said live.own })
-        (Asked live.peers.items)) (heard_entries p said ++ history)
-        → Hears session.Cii p said (now_at now live) new → HearsSo false
-    silent said r h = (
-      heard_entries p said ++ history,
-      record {
-        runs = subst (λ own. Runs plan start new.shown (stood (record live { own = own }) (Asked live.peers.items))
-            (heard_entries p said ++ history)) (sym h.live) r;
-        knows = steps.learns s.knows (λ own k. (h.known own history its_kind k).1);
-      },
-    )
+    closed : companions.Adds now new.shown (Closed p ∷ [])
+        → Runs plan start new.shown (over (companions.without p live.own)) (Closed p ∷ history)
+    closed a =
+        subst (λ (o : Option ℕ). Runs plan start new.shown (record {
+          facts = record (facts_in live) { television = o; parting = Some (parting.Closed session.Cii) };
+          place = Asked [];
+        }) (Closed p ∷ history)) (sym none) (steps.stands_on asked (Closed p) (answer.Closed, refl)
+        (ap is_ts its_kind) (λ x. (x.0, All-nil (Came (Closed p ∷ history)), tt)) a).runs
+
+    -- what the relay knows then
+    knows : (said : Answer) → Hears session.Cii p said (now_at now live) new
+        → (Agrees plan.run.companion.local live.relay.agree history
+        → Agrees plan.run.companion.local live.relay.agree (heard_entries p said ++ history))
+        → Knows plan (with_companion live.relay new.companion) (heard_entries p said ++ history)
+    knows said h agrees = steps.learns s.knows (λ own k. (h.known own history its_kind k).1) agrees
 
     heard : (said : Answer) → Hears session.Cii p said (now_at now live) new → HearsSo (is_text said)
-    heard answer.Quiet h = silent answer.Quiet (quiet h.called) h
-    heard answer.Closed h = silent answer.Closed (closed h.called) h
+    heard answer.Quiet h = inl (
+      (
+        Quiet p ∷ history,
+        record {
+          runs = subst (λ own. Runs plan start new.shown (stood (record live { own = own }) (Asked live.peers.items))
+              (Quiet p ∷ history)) (sym h.live) (quiet h.called);
+          knows = knows answer.Quiet h (λ a. a);
+        },
+      ),
+      ap {A = Own} (λ own. own.cii_open) h.live,
+    )
+    heard answer.Closed h = inr (
+      (
+        Closed p ∷ history,
+        record {
+          runs = subst (λ own. Runs plan start new.shown (over own) (Closed p ∷ history)) (sym h.live) (closed h.called);
+          knows = knows answer.Closed h (λ a. a);
+        },
+      ),
+      ap is_some e,
+      ap {A = Own} (λ own. own.cii_open) h.live ∙ none,
+    )
     heard (answer.Text text) h = (
       _,
       subst (λ own. Stands plan start new.shown (with_companion live.relay new.companion)
-          (published (relayed_state live.relay.wc_url new.companion.state) (facts_in (record live { own = own }))) (Heard p text ∷ history))
+          (published (relayed_state live.relay.wc_url new.companion.state) (facts_in (record live { own = own })))
+          (Heard p text ∷ history))
           (sym h.live) (steps.taken_in live p asked text h.called (h.known _ history its_kind s.knows.companion).0 _
-          (steps.learns s.knows (λ own k. (h.known own history its_kind k).1))),
+          (knows (answer.Text text) h (λ a. a))),
     )
 
     memory : (ended : Driven) → IsRefusal None ended → ended ≡ driven.Memory
@@ -309,23 +348,25 @@ module _ (live : Live) {plan : Plan} {start now : Shown} {history : History}
     memory _ r = absurd r
 
     refused : (said : Answer) (ended : Driven) → companions.Adds now new.shown (heard_entries p said)
-        → IsRefusal (refusal_by session.Cii said history) ended → Stops plan start new.shown ended
-    refused answer.Quiet ended a r =
+        → new.live ≡ with_answer p said live.own
+        → IsRefusal (refusal_by session.Cii said history) ended → Stops plan start new.shown (with_at live new) ended
+    refused answer.Quiet ended a same r =
         steps.stops_by_memory (quiet a) (lawful_plain (Quiet p) history (steps.lawful s.knows) refl refl) ended
         (memory ended r)
-    refused answer.Closed ended a r =
+    refused answer.Closed ended a same r =
         steps.stops_by_memory (closed a) (lawful_plain (Closed p) history (steps.lawful s.knows) refl refl) ended
         (memory ended r)
-    refused (answer.Text text) ended a r = steps.refused live p asked text a ended r
+    refused (answer.Text text) ended a same r =
+        steps.refused live p asked {later = with_at live new}
+        (ap {A = Own} (λ own. facts_in (record live { own = own })) same) text a ended r
 
   pub goes_hear : (o : Option ℕ) → live.own.cii_open ≡ o → (result : Result Bool Driven)
       → HearsOnce None session.Cii o (now_at now live) new result
-      → MatchResult result HearsSo (Stops plan start new.shown)
+      → MatchResult result HearsSo (Stops plan start new.shown (with_at live new))
   goes_hear None e (Ok told) x =
-      subst HearsSo (sym x.0) (subst (λ (a : At). IsAt (λ f. Asked f.peers) plan start a.shown (with_at live a)) (sym x.1)
-      (steps.here (steps.asked_next live s None e)))
+      subst HearsSo (sym x.0) (inl (subst IsQuiet (sym x.1) (steps.here (steps.asked_next live s None e), refl)))
   goes_hear None e (Err ended) never = absurd never
   goes_hear (Some p) e (Ok told) (said, h, is) = subst HearsSo (sym is) (heard p e said h)
   goes_hear (Some p) e (Err ended) (inl f) = steps.stops_by_fault s.runs (steps.lawful s.knows) f
-  goes_hear (Some p) e (Err ended) (inr (said, a, refusal)) =
-      refused p e said ended a (refusal _ history (its_kind p e) s.knows.companion)
+  goes_hear (Some p) e (Err ended) (inr (said, a, same, refusal)) =
+      refused p e said ended a same (refusal _ history (its_kind p e) s.knows.companion)

@@ -1,10 +1,10 @@
 -- What each entry of a relay's run says of the place that it leaves, and to which places entries lead. So a run that is
 -- done made all its turns.
-use Rattle.std.proofs.Common.{◌≡◌, ℕ, ◌<◌, Bool, true, false, List, [], ◌∷◌, ◌++◌, Option, refl, arith, ◌+◌, ◌≤◌}
-use Rattle.std.specs.Prelude.{◌||◌, ◌⊎◌, nat_lt, not, is_some, ⊤, Ok}
-use Rattle.std.proofs.lemmas.Bool.{and_parts}
+use Rattle.std.proofs.Common.{◌≡◌, ℕ, Bool, true, false, List, [], ◌∷◌, ◌++◌, Option, Some, None, refl, arith, ◌+◌, ap₂}
+use Rattle.std.specs.Prelude.{◌||◌, is_some, ⊤, Ok}
+use Rattle.std.specs.Option.{option_or}
 use Rattle.std.proofs.lemmas.Bool.Decides.{nat_tests}
-use Rattle.css_drive.specs.CompanionTurns.{is_late, goes_on, turns, first_turn, this_turn, any_dialled}
+use Rattle.css_drive.specs.CompanionTurns.{turns, first_turn, this_turn, dialled}
 use Rattle.css_drive.specs.Proper.{Due, Now, Dial, SendDatagram, TakeDatagram, SendText, HangUp, Ends, MayAdd, Empty}
 use Rattle.css_drive.specs.Proper.{More}
 use Rattle.css_model.specs.declared.Kind.{Kind}
@@ -13,12 +13,11 @@ use Rattle.css_model.specs.declared.Why.{Why}
 use Rattle.css_model.specs.History.{Entry, History, Each, Slept, Clock, Dialling, Dialled, NotDialled, Sent, Took}
 use Rattle.css_model.specs.History.{TookNone, Wrote, Gone, HungUp}
 use Rattle.css_model.specs.Wire.{encoded, request_at}
-use Rattle.css_outside.specs.Limits.{most_turns}
 use Rattle.css_sessions.specs.Kept.{full_text}
-use Rattle.css_drive_relay.specs.Places.{Place, Begins, Begun, Called, Requested, Asking, Taken, Received, Answers}
-use Rattle.css_drive_relay.specs.Places.{Served, Greeting, Rejecting, Welcomed, Refused, Telling, Asked, Dropping, Over}
+use Rattle.css_drive_relay.specs.Places.{Place, Begun, Called, Requested, Asking, Taken, Received, Answers}
+use Rattle.css_drive_relay.specs.Places.{Served, Greeting, Rejecting, Welcomed, Refused, Telling, Asked, Dropping}
 use Rattle.css_drive_relay.specs.Places.{Facts, Progress, progress_of}
-use Rattle.css_drive_relay.specs.Due.{due_at, IsProperRelay, due}
+use Rattle.css_drive_relay.specs.Due.{due_at, IsProperRelay, due, is_left}
 use Rattle.css_drive_relay.specs.declared.plan.Plan.{Plan}
 use Rattle.css_drive.specs.Ends.{MayEnd}
 use Rattle.css_drive.specs.declared.driven.Driven.{Driven}
@@ -47,7 +46,6 @@ IsRest (Asking reading) = ⊥
 IsRest (Taken peer bytes) = ⊥
 IsRest (Received peer ticket) = ⊥
 IsRest (Answers peer datagram) = ⊥
-IsRest (Over left) = ⊥
 IsRest _ = ⊤
 
 -- no datagram is to be sent
@@ -81,26 +79,17 @@ IsDropped (Rejecting peer) = ⊤
 IsDropped (Dropping peer left) = ⊤
 IsDropped _ = ⊥
 
--- the turns are over
-abbrev pub IsOver : Place → Type 0
-IsOver (Over left) = ⊤
-IsOver _ = ⊥
-
 -- there is no other turn
 abbrev pub IsMade : Plan → Facts → Type 0
-IsMade plan f = goes_on plan.run.limit f.first f.turn f.turns ≡ false
+IsMade plan f = is_left plan f ≡ false
 
--- either is so
-abbrev pub HasEnded : Plan → Facts → Place → Type 0
-HasEnded plan f place = IsOver place ⊎ IsMade plan f
-
--- whether a dial succeeded
-abbrev pub reached : Facts → Bool
-reached f = is_some f.cii || is_some f.wc
+-- whether a dial of CSS-CII succeeded, in this visit or an earlier one
+abbrev pub reached : Plan → Facts → Bool
+reached plan f = plan.begun.reached || is_some f.cii
 
 -- ---- what is due
 abbrev pub FitsClock : Plan → Facts → Place → Why → Type 0
-FitsClock plan f place why.Turn = IsRest place × (f.turns < most_turns plan.run.limit)
+FitsClock plan f place why.Turn = IsRest place
 FitsClock plan f place why.Ask = IsRest place
 FitsClock plan f place why.Give = IsReceived place
 FitsClock plan f place _ = IsTaken place
@@ -116,22 +105,14 @@ Fits plan f place (Dial k to) = FitsDial place k
 Fits plan f place (SendDatagram peer bytes) = (waiting place ≡ []) × IsToSend place bytes
 Fits plan f place TakeDatagram = (waiting place ≡ []) × ⊤
 Fits plan f place (SendText peer text) = IsToTell f place peer text
-Fits plan f place (HangUp peer) = (waiting place ≡ []) × (IsDropped place ⊎ HasEnded plan f place)
-Fits plan f place (Ends driven.Done) = (waiting place ≡ []) × HasEnded plan f place × (reached f ≡ true)
+Fits plan f place (HangUp peer) = (waiting place ≡ []) × IsDropped place
+Fits plan f place (Ends driven.Done) = (waiting place ≡ []) × IsMade plan f × (reached plan f ≡ true)
 Fits plan f place (Ends (driven.Unreachable count)) =
-    (waiting place ≡ []) × HasEnded plan f place × (reached f ≡ false) × (count ≡ f.turns)
+    (waiting place ≡ []) × IsMade plan f × (reached plan f ≡ false) × (count ≡ f.turns)
 Fits plan f place _ = (waiting place ≡ []) × IsRest place
-
--- a turn is left
-pub one_more : (plan : Plan) (f : Facts) → goes_on plan.run.limit f.first f.turn f.turns ≡ true
-    → f.turns < most_turns plan.run.limit
-one_more plan f on =
-    let more = (and_parts (nat_lt f.turns (most_turns plan.run.limit)) (not (is_late plan.run.limit f.first f.turn)) on).0 in
-    grind (arith, nat_tests, more)
 
 pub fits : (plan : Plan) (f : Facts) (history : History) (place : Place)
     → Fits plan f place (due_at plan f history place)
-fits plan f history Begins = grind arith
 fits plan f history Begun = grind arith
 fits plan f history (Called k) = grind arith
 fits plan f history (Asking reading) = grind arith
@@ -147,7 +128,6 @@ fits plan f history (Refused fault) = grind arith
 fits plan f history (Telling text left) = grind (arith, nat_tests)
 fits plan f history (Asked left) = grind (arith, nat_tests)
 fits plan f history (Dropping peer left) = grind arith
-fits plan f history (Over left) = grind arith
 
 -- ---- entries
 -- what the place was that an entry leaves
@@ -162,7 +142,7 @@ Follows plan f place (Took peer bytes) = (waiting place ≡ []) × ⊤
 Follows plan f place TookNone = (waiting place ≡ []) × ⊤
 Follows plan f place (Wrote peer text) = IsToTell f place peer text
 Follows plan f place (Gone peer) = (text : List ℕ) × IsToTell f place peer text
-Follows plan f place (HungUp peer) = (waiting place ≡ []) × (IsDropped place ⊎ HasEnded plan f place)
+Follows plan f place (HungUp peer) = (waiting place ≡ []) × IsDropped place
 Follows plan f place _ = (waiting place ≡ []) × IsRest place
 
 abbrev pub Followed : Plan → History → Type 0
@@ -209,16 +189,17 @@ abbrev pub begun : Facts → Turns
 begun f = (f.turns, f.first, f.turn)
 
 -- ---- what stands as the run goes on
-abbrev pub made_of : History → Turns
-made_of h = (turns h, first_turn h, this_turn h)
+abbrev pub made_of : Plan → History → Turns
+made_of plan h = (
+  plan.begun.turns + turns h,
+  option_or plan.begun.first (first_turn h),
+  option_or (this_turn h) plan.begun.turn,
+)
 
--- These turns were begun, and no more than there are to be; all of them where the turns are over. And whether a dial
--- succeeded.
+-- These turns were begun, those of earlier visits among them. And the session of CSS-CII that was dialled.
 pub record Counts (plan : Plan) (h : History) (p : Progress) : Type 0 where
-  pub turns : begun p.facts ≡ made_of h
-  pub few : p.facts.turns ≤ most_turns plan.run.limit
-  pub over : IsOver p.place → IsMade plan p.facts
-  pub dialled : reached p.facts ≡ any_dialled h
+  pub turns : begun p.facts ≡ made_of plan h
+  pub dialled : p.facts.cii ≡ dialled kind.Cii h
 
 abbrev pub Good : Plan → History → Type 0
 Good plan h = Counts plan h (progress_of plan h)
@@ -230,33 +211,32 @@ module _ (plan : Plan) (older : History) (t : Good plan older) where
   after : (entry : Entry) → Follows plan p.facts p.place entry → Good plan (entry ∷ older)
   after entry c = record {
     turns = let was = t.turns in grind (arith, was, c);
-    few = let few = t.few in grind (arith, nat_tests, few, c);
-    over = λ e. let over = t.over in grind (arith, nat_tests, over, c, e);
     dialled = let was = t.dialled in grind (arith, was, c);
   }
 
 all_good : (plan : Plan) (h : History) → Followed plan h → Good plan h
-all_good plan [] each = record { turns = refl; few = omega arith; over = λ e. absurd e; dialled = refl }
+all_good plan [] each = record {
+  turns =
+      ap₂ {A = ℕ} {B = Option ℕ} {C = Turns} (λ n first. (n, first, plan.begun.turn)) (omega arith)
+      (elim plan.begun.first as (λ o. o ≡ option_or o None) [ None ↦ refl | Some first ↦ refl ]);
+  dialled = refl;
+}
 all_good plan (entry ∷ older) each = after plan older (all_good plan older each.1) entry each.0
 
 -- ---- the end
-has_made_all : (plan : Plan) (h : History) → Good plan h
-    → HasEnded plan (progress_of plan h).facts (progress_of plan h).place
-    → HasMadeAll plan h
-has_made_all plan h t ended =
-    let turns = t.turns in
-    let few = t.few in
-    let over = t.over in grind (arith, nat_tests, turns, few, over, ended)
+has_made_all : (plan : Plan) (h : History) → Good plan h → (progress_of plan h).facts.parting ≡ None
+    → IsMade plan (progress_of plan h).facts → HasMadeAll plan h
+has_made_all plan h t whole made = let turns = t.turns in grind (arith, nat_tests, turns, whole, made)
 
-is_made : (plan : Plan) (h : History) (ended : Driven) → Good plan h
+is_made : (plan : Plan) (h : History) (ended : Driven) → Good plan h → (progress_of plan h).facts.parting ≡ None
     → Fits plan (progress_of plan h).facts (progress_of plan h).place (due plan h) → MayEnd (due plan h) ended
     → MadeTurns plan h ended
-is_made plan h ended t c ends =
+is_made plan h ended t whole c ends =
     let turns = t.turns in
     let dialled = t.dialled in
-    let made = has_made_all plan h t in grind (arith, ends, c, turns, dialled, made)
+    let made = has_made_all plan h t whole in grind (arith, ends, c, turns, dialled, made)
 
 pub turns_are_made : TurnsAreMade
-turns_are_made plan h ended proper ends =
+turns_are_made plan h ended proper whole ends =
     let p : Progress = progress_of plan h in
-    is_made plan h ended (all_good plan h (followed plan h proper)) (fits plan p.facts h p.place) ends
+    is_made plan h ended (all_good plan h (followed plan h proper)) whole (fits plan p.facts h p.place) ends

@@ -3,3 +3,5 @@ pub mod Steps
 mod AsCompanion
 pub mod ToldSessions
 pub mod SecondHop
+mod Landing
+mod Staying

@@ -9,7 +9,7 @@ use Rattle.css_model.specs.WallClock.{Local}
 use Rattle.css_model.specs.Wire.{encoded, decoded, fault}
 use Rattle.css_model.specs.World.{World, Errors, IsWorldFor, IsInRange}
 use Rattle.css_model.specs.History.{History, LandedAnswer, landed_answer, Entry, Once, Clock, Each, Slept, Sent}
-use Rattle.css_relay.specs.Answers.{Ticket, received_after, answered_after, answered}
+use Rattle.css_relay.specs.Answers.{Ticket, received_after, answered_after}
 use Rattle.css_relay.specs.TwoHops.{IsTrueResponse, IsAnswerOf}
 use Rattle.css_relay.specs.declared.fault.RelayFault.{RelayFault}
 use Rattle.std.specs.Result.{result_ok}

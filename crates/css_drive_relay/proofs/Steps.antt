@@ -2,7 +2,7 @@
 -- answers and sessions make of it, and how it ends.
 use Rattle.std.proofs.Common.{◌≡◌, ℕ, ◌≤◌, ◌<◌, arith, ap, ◌∙◌, refl, Bool, true, false, cond, List, [], ◌∷◌, ◌++◌}
 use Rattle.std.proofs.Common.{Option, Some, None, ◌+◌, sym, subst, ◌||◌, inl, inr, Result, Ok, ap₂, Err}
-use Rattle.std.specs.Prelude.{All, ◌==◌, ◌≢◌, not, is_some, ◌⊎◌, unwrap_or, MatchResult, ◌&&◌, IfSome, length}
+use Rattle.std.specs.Prelude.{All, ◌==◌, not, is_some, ◌⊎◌, unwrap_or, MatchResult, ◌&&◌, IfSome, length}
 use Rattle.std.specs.Option.{option_or, option_map}
 use Rattle.std.proofs.lemmas.Bool.{ne_eqb, eq-eqb, cond_both}
 use Rattle.std.proofs.lemmas.Option.{IfSome_then}
@@ -11,40 +11,44 @@ use Rattle.std.proofs.lemmas.List.Elements.{All-nil, All-filter, All-head, All-c
 use Rattle.std.proofs.lemmas.Bool.Decides.{nat_tests}
 use Rattle.css_model.specs.declared.Kind.{Kind}
 use Rattle.css_model.specs.History.{Dialled, Accepted, History, Entry, Slept, Clock, Address, Dialling, NotDialled}
-use Rattle.css_model.specs.History.{HungUp, Listening, Closed, Gone, Heard, Sent, request_in, NoneCame}
+use Rattle.css_model.specs.History.{Closed, Gone, Heard, Sent, request_in, NoneCame}
 use Rattle.css_companion.specs.Meanings.{kind_of, opens_ts, is_cii, is_ts, state_of}
 use Rattle.css_drive.specs.TvRan.{AreBelow, AreNumbered}
 use Rattle.css_drive_relay.specs.Places.{Facts, Progress, next_asked, telling, telling_if, without, Place, after}
-use Rattle.css_drive_relay.specs.Places.{progress_of, Begun, Called, after_dial, after_clock, Asked, Over, all_open}
-use Rattle.css_drive_relay.specs.Places.{without_first, hung_up, beginning, with_turn, Taken, Received, Served}
+use Rattle.css_drive_relay.specs.Places.{progress_of, Begun, Called, Refused, after_dial, after_clock, Asked, landed, landed_at}
+use Rattle.css_drive_relay.specs.Places.{beginning, with_turn, Taken, Received, Served}
 use Rattle.css_drive_relay.specs.Places.{received, answering, Welcomed, welcomed, published, television_told, is_kept}
 use Rattle.css_drive_relay.specs.Places.{opened_if, Asking}
 use Rattle.css_drive_relay.specs.Standing.{AreInOrder, KnowsPeers, named, Knows, Runs, Stops, HasRead, facts_in, stood}
-use Rattle.css_drive_relay.specs.Standing.{Stands, IsAt, HangsUp, Keeps, Came, visiting}
+use Rattle.css_drive_relay.specs.Standing.{Stands, IsAt, IsStop, Keeps, Came, visiting}
 use Rattle.css_model.specs.declared.Why.{Why}
 use Rattle.css_model.specs.Explains.{IsLawful}
+use Rattle.css_model.specs.History.{accepted_answers}
 use Rattle.css_outside.specs.Outsides.{Counts, with_entries, clock_entries, sleep_entries}
 use Rattle.css_outside.specs.declared.calls.Clocked.{Clocked}
+use Rattle.css_agree.specs.Disagreements.{contradicts}
+use Rattle.css_agree.specs.Keeping.{Kept}
+use Rattle.css_client.specs.Landings.{judged_of}
+use Rattle.css_relay.specs.Agreeing.{Agrees, IsAgreementOf}
 use Rattle.css_relay.specs.Lending.{with_companion}
 use Rattle.css_relay.specs.Relays.{Relay, relayed_state}
 use Rattle.css_drive.specs.CompanionStanding as companions
 use Rattle.css_drive.specs.CompanionStanding.{Shown, Adds, Fails, asked_after, HasDialled, IsEarly, dial_entries}
-use Rattle.css_drive.specs.CompanionStanding.{IsEndBy, IsRefusal}
-use Rattle.css_drive.specs.Ends.{MayEnd, CountsNetFault, CountsDialFaults}
+use Rattle.css_drive.specs.CompanionStanding.{IsFault, IsRefusal}
+use Rattle.css_drive.specs.Ends.{MayEnd, CountsNetFault}
 use Rattle.css_drive.specs.Proper.{Due, Now, MayAdd, More, Dial, Ends, Empty, TakeDatagram}
 use Rattle.css_drive.specs.declared.driven.Driven.{Driven}
+use Rattle.css_drive.specs.declared.parting.Parting.{Parting}
 use Rattle.css_drive.proofs.CompanionSteps.{told_more, counts_same, fault_ends, own_quiet, IsOwn, knows_plain}
 use Rattle.css_drive.proofs.CompanionSteps.{knows_tried, lawful_plain, refusal_ends, refusal_own}
-use Rattle.css_drive_relay.specs.Ran.{CountsRelayRun}
-use Rattle.css_drive_relay.specs.Due.{due, due_at, due_for, final, from_hang_ups, from_taken, from_ask}
+use Rattle.css_drive_relay.specs.Due.{due, due_at, due_for, final, from_taken, from_ask, is_left}
 use Rattle.css_drive_relay.specs.declared.live.Live.{Live}
 use Rattle.css_drive_relay.specs.declared.sessions.Visit.{Visit}
 use Rattle.css_drive_relay.specs.declared.plan.Plan.{Plan}
 use Rattle.css_drive.specs.CompanionDue.{place, refusal_of, end_by}
 use Rattle.css_cii.specs.declared.state.State.{State}
-use Rattle.css_outside.specs.Faults.{HasRisen}
 use Rattle.css_drive.specs.CompanionTurns.{goes_on, is_late, is_asking}
-use Rattle.css_drive.proofs.CompanionEnds.{early_dials, never_late, no_entries}
+use Rattle.css_drive.proofs.CompanionEnds.{never_late, no_entries}
 use Rattle.css_outside.specs.Limits.{IsLimit, most_turns}
 use Rattle.css_outside.specs.declared.limit.Limit.{Limit}
 use Rattle.css_outside.specs.declared.limit.Limit.TheVariants.{Turns, Seconds}
@@ -141,15 +145,33 @@ IsAside h (Closed peer) = is_ts (kind_of peer h) ≡ false
 IsAside h (Gone peer) = is_ts (kind_of peer h) ≡ false
 IsAside h _ = Unit {0}
 
+-- and no answer
+counts_aside : (own : Local) (h : History) (entry : Entry) → IsAside h entry
+    → accepted_answers own (entry ∷ h) ≡ accepted_answers own h
+counts_aside own h entry is = grind (arith, is)
+
+-- nor does a reading that may tell a sleep, after which no answer counts
+pub agrees_asleep : (own : Local) (agree : Kept) (h : History) (slept : Bool) → Agrees own agree h
+    → Agrees own agree (sleep_entries slept ++ h)
+agrees_asleep own agree h true a = record { local = a.local; stands = inl refl }
+agrees_asleep own agree h false a = a
+
 module _ {plan : Plan} {relay : Relay} {history : History} (k : Knows plan relay history) where
-  -- what its companion learns
+  -- what its companion learns, and what its answers are then
   pub learns : {is : Companion} {later : History} → ((own : CompanionConfig)
       → companions.Knows own relay.companion history → companions.Knows own is later)
+      → (Agrees plan.run.companion.local relay.agree history → Agrees plan.run.companion.local relay.agree later)
       → Knows plan (with_companion relay is) later
-  learns learn = record { companion = learn plan.run.companion k.companion; wc_url = k.wc_url }
+  learns learn agrees =
+      record { companion = learn plan.run.companion k.companion; wc_url = k.wc_url; agrees = agrees k.agrees }
 
   pub aside : (entry : Entry) → IsAside history entry → Knows plan relay (entry ∷ history)
-  aside entry is = record { companion = by entry is; wc_url = k.wc_url }
+  aside entry is = record {
+    companion = by entry is;
+    wc_url = k.wc_url;
+    agrees = subst (IsAgreementOf plan.run.companion.local relay.agree)
+        (sym (counts_aside plan.run.companion.local history entry is)) k.agrees;
+  }
     where
       by : (entry : Entry) → IsAside history entry → companions.Knows plan.run.companion relay.companion (entry ∷ history)
       by Slept is = absurd is
@@ -170,34 +192,36 @@ module _ {plan : Plan} {relay : Relay} {history : History} (k : Knows plan relay
 pub knows_read : {now next : Shown} {live later : Live} {w : Why} {clocked : Clocked} {plan : Plan} {h : History}
     → HasRead now next live later w clocked → Knows plan live.relay h
     → Knows plan later.relay (sleep_entries clocked.slept ++ h)
-knows_read {later = later} {clocked = clocked} {plan} {h} r k =
+knows_read {live = live} {later} {clocked = clocked} {plan} {h} r k =
     subst (λ (x : Live). Knows plan x.relay (sleep_entries clocked.slept ++ h)) (sym r.rest)
-    (learns k (λ own. r.read.known own h))
+    (learns k (λ own. r.read.known own h) (agrees_asleep plan.run.companion.local live.relay.agree h clocked.slept))
 
 still : (n : ℕ) (h : History) (entry : Entry) → IsAside h entry → AreInOrder n h → AreInOrder n (entry ∷ h)
 still n h entry is o = grind (arith, is, o)
 
 -- ---- a fault
+fault_kind : (ended : Driven) → IsFault ended → IsStop ended
+fault_kind ended f = grind (arith, f)
+
 -- a call of the outside failed, so the run ends
-pub stops_by_fault : {plan : Plan} {start now next : Shown} {p : Progress} {history : History} {ended : Driven}
-    → Runs plan start now p history → IsLawful history → Fails now next None ended → Stops plan start next ended
+pub stops_by_fault : {plan : Plan} {start now next : Shown} {live : Live} {p : Progress} {history : History}
+    {ended : Driven} → Runs plan start now p history → IsLawful history → Fails now next None ended
+    → Stops plan start next live ended
 stops_by_fault {plan} {start} {now} {next} {history = history} {ended} s l f =
     let P : ℕ → Type 0 = λ n. CountsNetFault n next.counts.faults ended in
     record {
-      ran = record {
-        history = history;
-        grew = f.told ∙ s.told;
+      history = history;
+      told = f.told ∙ s.told;
+      visited = λ hung. record {
         proper = s.proper;
         lawful = l;
         numbered = s.numbered;
         ends = fault_ends (due plan history) ended f.end;
       };
       counted = subst P s.faults f.counted;
-      quiet = fault_quiet ended f.end;
+      kind = fault_kind ended f.end;
+      known = inl f.end;
     }
-  where
-    fault_quiet : (ended : Driven) → IsEndBy None ended → ended ≢ driven.WriteFault
-    fault_quiet ended f e = grind (arith, f, e)
 
 -- ---- a call that is due
 -- the run came to this history, and at this place to what follows there
@@ -265,12 +289,12 @@ module _ {plan : Plan} {start now : Shown} {relay : Relay} {p : Progress} {histo
   }
 
   -- or the call failed, and a function ends with it
-  pub made : (next : Shown) (result : Result (Unit {0}) Driven)
+  pub made : (next : Shown) (live : Live) (result : Result (Unit {0}) Driven)
       → MatchResult result (λ _. Adds now next (entry ∷ [])) (Fails now next None)
       → MatchResult result (λ _. (h : History) × Stands plan start next relay (after plan entry history p) h)
-      (Stops plan start next)
-  made next (Ok done) a = (_, stands_on a)
-  made next (Err ended) f = stops_by_fault s.runs (lawful s.knows) f
+      (Stops plan start next live)
+  made next live (Ok done) a = (_, stands_on a)
+  made next live (Err ended) f = stops_by_fault s.runs (lawful s.knows) f
 
 -- ---- the clock
 pub read_facts : {now next : Shown} {live later : Live} {w : Why} {clocked : Clocked}
@@ -339,38 +363,57 @@ module _ {plan : Plan} {start now mid : Shown} {live later : Live} {history : Hi
       (is-due ∙ ap₂ (λ (o : Option ℕ) (c : Bool). cond (is_some o && c) (Now why.Ask) TakeDatagram) some time) r
       (stood later (Asking clocked.reading)) refl (unnamed history (Asking clocked.reading) refl)
 
-  -- for a landing
+-- ---- landings
+module _ {plan : Plan} {start now mid : Shown} {live later : Live} {history : History} {clocked : Clocked} where
   pub lands : {peer : ℕ} {bytes : List ℕ} → Runs plan start now (stood live (Taken peer bytes)) history
       → is_some (request_in bytes) ≡ false → HasRead now mid live later why.Land clocked
-      → Runs plan start mid (stood later Served) (clock_entries why.Land clocked ++ history)
-  lands s none r =
-      runs_read s (ap from_taken none) r (stood later Served) refl (unnamed history Served refl)
+      → Runs plan start mid (landed_at plan clocked.reading (sleep_entries clocked.slept ++ history) (Taken peer bytes)
+      (facts_in later)) (clock_entries why.Land clocked ++ history)
+  lands {peer} {bytes} s none r =
+      runs_read s (ap from_taken none) r _ refl
+      (λ x. unnamed_landed (contradicts plan.run.companion.local clocked.reading
+      (judged_of plan.run.companion.local (sleep_entries clocked.slept ++ history) clocked.reading bytes)
+      (accepted_answers plan.run.companion.local (sleep_entries clocked.slept ++ history))) x)
+    where
+      unnamed_landed : (told : Bool) → KnowsPeers (stood later (Taken peer bytes)) history
+          → KnowsPeers (landed told (facts_in later)) history
+      unnamed_landed true x = (x.0, All-nil (Came history), x.2)
+      unnamed_landed false x = (x.0, All-nil (Came history), x.2)
 
 -- ---- ends
--- the end is due, or memory is wanting
-pub stops_here : {plan : Plan} {start now : Shown} {p : Progress} {history : History}
-    → Runs plan start now p history → IsLawful history → (ended : Driven) → IsOwn ended
-    → MayEnd (due_for plan history p) ended → Stops plan start now ended
-stops_here {plan} {start} {now} {history = history} s l ended own ends =
+-- the end is due
+pub stops_here : {plan : Plan} {start now : Shown} {live : Live} {p : Progress} {history : History}
+    → Runs plan start now p history → IsLawful history → facts_in live ≡ p.facts → (ended : Driven) → IsStop ended
+    → IsOwn ended → MayEnd (due_for plan history p) ended → Stops plan start now live ended
+stops_here {plan} {start} {now} {history = history} s l facts ended kind own ends =
     let P : Due → Type 0 = λ x. MayEnd x ended in
     record {
-      ran = record {
-        history = history;
-        grew = s.told;
+      history = history;
+      told = s.told;
+      visited = λ hung. record {
         proper = s.proper;
         lawful = l;
         numbered = s.numbered;
         ends = subst P (sym (ap (due_for plan history) s.progress)) ends;
       };
       counted = counts_same start.counts.faults now.counts.faults ended (own_quiet ended own) s.faults;
-      quiet = λ e. subst IsOwn e own;
+      kind = kind;
+      known = inr (facts ∙ sym (ap {A = Progress} (λ x. x.facts) s.progress));
     }
 
-pub stops_by_memory : {plan : Plan} {start now : Shown} {p : Progress} {history : History}
+-- memory is wanting
+pub stops_by_memory : {plan : Plan} {start now : Shown} {live : Live} {p : Progress} {history : History}
     → Runs plan start now p history → IsLawful history → (ended : Driven) → ended ≡ driven.Memory
-    → Stops plan start now ended
-stops_by_memory {plan} {start} {now} s l ended e =
-    subst (λ (x : Driven). Stops plan start now x) (sym e) (stops_here s l driven.Memory tt tt)
+    → Stops plan start now live ended
+stops_by_memory {plan} {start} {now} {live} {history = history} s l ended e =
+    subst (λ (x : Driven). Stops plan start now live x) (sym e) (record {
+      history = history;
+      told = s.told;
+      visited = λ hung. record { proper = s.proper; lawful = l; numbered = s.numbered; ends = tt };
+      counted = counts_same start.counts.faults now.counts.faults driven.Memory (own_quiet driven.Memory tt) s.faults;
+      kind = tt;
+      known = inl tt;
+    })
 
 -- ---- dials
 -- how far the run is once a dial was tried
@@ -407,7 +450,11 @@ module _ (live : Live) {plan : Plan} {start now : Shown} {relay : Relay} {histor
         (ap (λ (p : Progress). after plan (NotDialled k) (Dialling k to ∷ history) p) s.runs.progress)
         (s.runs.peers.0, All-nil (Came history), s.runs.peers.2)
         (let later = d.later in in_order_later _ (next.counts.peers + 1) history s.runs.ordered (omega (arith, later)));
-    knows = record { companion = knows_tried k to None tt s.knows.companion; wc_url = s.knows.wc_url };
+    knows = record {
+      companion = knows_tried k to None tt s.knows.companion;
+      wc_url = s.knows.wc_url;
+      agrees = s.knows.agrees;
+    };
   }
   dialled {next} k to is-due opens (Some q) d =
       let lt = d.peer.0 in
@@ -418,45 +465,12 @@ module _ (live : Live) {plan : Plan} {start now : Shown} {relay : Relay} {histor
             (ap (λ (p : Progress). after plan (Dialled k q) (Dialling k to ∷ history) p) s.runs.progress)
             (knows_dialled k q (omega (arith, lt)) (opens q))
             (omega (arith, le), in_order_later _ q history s.runs.ordered (omega (arith, lt)));
-        knows = record { companion = knows_tried k to (Some q) (opens q) s.knows.companion; wc_url = s.knows.wc_url };
+        knows = record {
+          companion = knows_tried k to (Some q) (opens q) s.knows.companion;
+          wc_url = s.knows.wc_url;
+          agrees = s.knows.agrees;
+        };
       }
-
-module _ {plan : Plan} {start now : Shown} {live : Live} where
-  -- the turns are over, so all open sessions are to be hung up
-  pub hangs_all : {history : History} → Stands plan start now live.relay (stood live (Asked [])) history
-      → goes_on plan.run.limit live.own.first live.own.turn live.own.made ≡ false
-      → HangsUp plan start now live (all_open (facts_in live))
-  hangs_all {history} s enough = record {
-    history = history;
-    place = Asked [];
-    stands = s;
-    next = ap (λ b. cond b (Now why.Turn) (from_hang_ups (final (facts_in live)) (all_open (facts_in live)))) enough;
-    after = refl;
-  }
-
-  -- the first one was
-  pub hung : {left : List ℕ} {next : Shown} → HangsUp plan start now live left → {peer : ℕ} {rest : List ℕ}
-      → left ≡ peer ∷ rest → Adds now next (HungUp peer ∷ []) → HangsUp plan start next live rest
-  hung {next = next} x {peer} {rest} is a =
-      let goes : hung_up x.place (facts_in live) ≡ Over rest = x.after ∙ ap (λ xs. Over (without_first xs)) is in
-      record {
-        history = HungUp peer ∷ x.history;
-        place = Over rest;
-        stands = stands_as (stands_on x.stands (HungUp peer)
-            (may_as (x.next ∙ ap (from_hang_ups (final (facts_in live))) is) (HungUp peer ∷ []) refl) tt
-            (λ y. subst (λ (at : Place). KnowsPeers (stood live at) x.history) (sym goes)
-            (y.0, All-nil (Came x.history), y.2)) a) (stood live (Over rest)) (ap (stood live) goes);
-        next = refl;
-        after = refl;
-      }
-
-  -- all of them were
-  pub all_hung : {left : List ℕ} {ended : Driven} → ended ≡ final (facts_in live)
-      → HangsUp plan start now live left → left ≡ [] → Stops plan start now ended
-  all_hung e x none =
-      subst (λ (d : Driven). Stops plan start now d) (sym e) (stops_here x.stands.runs (lawful x.stands.knows)
-      (final (facts_in live))
-      (grind arith) (let due = x.next ∙ ap (from_hang_ups (final (facts_in live))) none in grind (arith, due)))
 
 -- ---- loops
 -- these sessions are left to be visited
@@ -475,32 +489,8 @@ keeps_on {old} {mid} {new} a b = record {
   early = b.early;
 }
 
--- ---- what is counted
--- a run that made its turns, where a dial succeeded or one failed, or one that is cut
-pub ending_so : (f : Facts) (before now : ℕ) → before ≤ now
-    → (f.cii ≡ None → HasRisen before now) → (ended : Driven) → (ended ≡ final f) ⊎ IsEarly ended
-    → CountsDialFaults before now ended
-ending_so f before now le tried ended (inl e) =
-    subst (λ (d : Driven). CountsDialFaults before now d) (sym e) (by f.cii (is_some f.wc) tried)
-  where
-    by : (o : Option ℕ) (b : Bool) → (o ≡ None → HasRisen before now)
-        → CountsDialFaults before now (cond (is_some o || b) driven.Done (driven.Unreachable f.turns))
-    by o b tried = grind (arith, le, tried)
-ending_so f before now le tried ended (inr early) = early_dials before now ended early le
-
--- with what was counted before the turns
-pub counts : {plan : Plan} {start next : Shown} {before mid now : Counts} {ended : Driven}
-    → Stops plan start next ended → CountsNetFault before.faults now.faults ended
-    → mid ≡ record before { faults = mid.faults } → CountsDialFaults mid.dial_faults now.dial_faults ended
-    → CountsRelayRun before now ended
-counts {now = now} {ended} stops faults e c = record {
-  faults = faults;
-  dials = subst (λ (n : ℕ). CountsDialFaults n now.dial_faults ended) (ap {A = Counts} (λ x. x.dial_faults) e) c;
-  no_writes = stops.quiet;
-}
-
 -- ---- the beginning
-pub at_first : (plan : Plan) (now : Shown) → Runs plan now now beginning []
+pub at_first : (plan : Plan) (now : Shown) → Runs plan now now (beginning plan.begun) []
 at_first plan now = record {
   told = no_entries now.told;
   faults = refl;
@@ -511,13 +501,9 @@ at_first plan now = record {
   numbered = tt;
 }
 
--- the relay listens
-pub listens : {plan : Plan} {now next : Shown} (live : Live) → Knows plan live.relay []
-    → facts_in live ≡ beginning.facts → Adds now next (Listening plan.run.host plan.run.port ∷ [])
-    → Stands plan now next live.relay (stood live (Asked [])) (Listening plan.run.host plan.run.port ∷ [])
-listens {plan} {now} live k e a =
-    stands_with (λ f. Asked []) e (stands_on (record { runs = at_first plan now; knows = k })
-    (Listening plan.run.host plan.run.port) refl tt (λ x. x) a)
+pub begins : (plan : Plan) (now : Shown) (live : Live) → Knows plan live.relay []
+    → facts_in live ≡ (beginning plan.begun).facts → Stands plan now now live.relay (stood live (Asked [])) []
+begins plan now live k e = stands_with (λ f. Asked []) e (record { runs = at_first plan now; knows = k })
 
 -- ---- turns
 some_turns : (limit : Limit) → IsLimit limit → 1 ≤ most_turns limit
@@ -530,6 +516,36 @@ pub was_begun : (limit : Limit) → IsLimit limit → (first this : Option ℕ) 
 was_begun limit range (Some first) this made some over = some
 was_begun limit range None this made some over =
     let least = some_turns limit range in grind (arith, nat_tests, over, least)
+
+-- a visit that was cut short began one
+pub some_made : (plan : Plan) (f : Facts) → IfSome f.first (λ x. 1 ≤ f.turns) → (f.parting ≡ None) ⊎ (1 ≤ f.turns)
+    → is_left plan f ≡ false → 1 ≤ f.turns
+some_made plan f begun (inr some) none = some
+some_made plan f begun (inl whole) none =
+    was_begun plan.run.limit plan.run.limit_range f.first f.turn f.turns begun
+    (subst (λ (o : Option Parting). (not (is_some o) && goes_on plan.run.limit f.first f.turn f.turns) ≡ false) whole
+    none)
+
+-- no turn is left, so the run ends
+pub over : {plan : Plan} {start now : Shown} {live : Live} {history : History}
+    → Stands plan start now live.relay (stood live (Asked [])) history → is_left plan (facts_in live) ≡ false
+    → (ended : Driven) → ended ≡ final plan (facts_in live) → Stops plan start now live ended
+over {plan} {start} {now} {live} s none ended e =
+    let d : Driven = final plan (facts_in live) in
+    subst (λ (x : Driven). Stops plan start now live x) (sym e) (stops_here s.runs (lawful s.knows) refl d (grind arith)
+    (grind arith) (subst (λ (b : Bool). MayEnd (cond b (Now why.Turn) (Ends d)) d) (sym none) (grind arith)))
+
+-- an unreachable one reached nobody
+pub unreached : (plan : Plan) (f : Facts) (turns : ℕ) → driven.Unreachable turns ≡ final plan f
+    → (plan.begun.reached ≡ false) × (f.cii ≡ None)
+unreached plan f turns e = by plan.begun.reached f.cii refl refl e
+  where
+    by : (b : Bool) (o : Option ℕ) → plan.begun.reached ≡ b → f.cii ≡ o
+        → driven.Unreachable turns ≡ cond (b || is_some o) driven.Done (driven.Unreachable f.turns)
+        → (plan.begun.reached ≡ false) × (f.cii ≡ None)
+    by false None r c e = (r, c)
+    by true o r c e = absurd (cc)
+    by false (Some peer) r c e = absurd (cc)
 
 pub begun_more : (first : Option ℕ) (made : ℕ) → 1 ≤ made → IfSome first (λ x. 1 ≤ made)
 begun_more None made some = tt
@@ -545,14 +561,14 @@ was_second limit range None made reading none last =
 -- the turn's reading was told, and it is the last by its time or isn't
 pub begun : {plan : Plan} {start now next : Shown} {live later : Live} {history : History} {f : Facts}
     {late last : Bool} {clocked : Clocked} → Stands plan start now live.relay (stood live (Asked [])) history
-    → goes_on plan.run.limit live.own.first live.own.turn live.own.made ≡ true → HasRead now next live later why.Turn clocked
+    → is_left plan (facts_in live) ≡ true → HasRead now next live later why.Turn clocked
     → f ≡ with_turn clocked.reading (facts_in later) → late ≡ is_late plan.run.limit f.first f.turn → late ≡ last
     → Stands plan start next later.relay (record { facts = f; place = cond last (Asked []) Begun })
     (clock_entries why.Turn clocked ++ history)
 begun {plan} {live = live} {later} {history} {f} {clocked = clocked} s on r e late is =
     stands_as (stands_with (places.begun plan) e
     (stands_read s
-    (ap (λ b. cond b (Now why.Turn) (from_hang_ups (final (facts_in live)) (all_open (facts_in live)))) on) tt r
+    (ap (λ b. cond b (Now why.Turn) (Ends (final plan (facts_in live)))) on) tt r
     _ refl (unnamed history (places.begun plan (with_turn clocked.reading (facts_in later)))
     (cond_both (is_late plan.run.limit (Some (unwrap_or later.own.first clocked.reading)) (Some clocked.reading)) (Asked [])
     Begun (λ at. named at ≡ []) (λ _. refl) (λ _. refl))))) _
@@ -622,6 +638,7 @@ module _ (live : Live) {plan : Plan} {start now next : Shown} {history : History
     knows = record {
       companion = knows_plain (Accepted peer k) s.knows.companion refl refl refl refl refl refl refl;
       wc_url = s.knows.wc_url;
+      agrees = s.knows.agrees;
     };
   }
     where
@@ -675,6 +692,9 @@ module _ (live : Live) {plan : Plan} {start now : Shown} {history : History} {re
       stands_as s (stood live (next_asked o live.peers.items)) (ap (λ x. stood live (next_asked x live.peers.items)) e)
 
 -- ---- the television
+refusal_kind : (fault : CompanionFault) (ended : Driven) → IsRefusal (Some fault) ended → IsStop ended
+refusal_kind fault ended r = grind (arith, r)
+
 module _ (live : Live) {plan : Plan} {start now next : Shown} {history : History} {relay : Relay} (peer : ℕ)
     (s : Stands plan start now relay (stood live (Welcomed peer)) history) where
   -- its text was heard, and is refused or not
@@ -691,22 +711,31 @@ module _ (live : Live) {plan : Plan} {start now next : Shown} {history : History
       [ None ↦ (x.0, told, x.2) | Some bad ↦ (x.0, All-nil (Came history), x.2) ])
 
   -- it ends the run
-  pub refused : (bytes : List ℕ) → Adds now next (Heard peer bytes ∷ []) → (ended : Driven)
-      → IsRefusal (refusal_of (Some bytes) history) ended → Stops plan start next ended
-  refused bytes a ended r =
-      stops_here (heard bytes a)
-      (lawful_plain (Heard peer bytes) history (lawful s.knows) refl refl) ended
-      (refusal_own (refusal_of (Some bytes) history) ended r)
-      (ends (refusal_of (Some bytes) history) r)
+  pub refused : {later : Live} → facts_in later ≡ facts_in live → (bytes : List ℕ)
+      → Adds now next (Heard peer bytes ∷ []) → (ended : Driven)
+      → IsRefusal (refusal_of (Some bytes) history) ended → Stops plan start next later ended
+  refused {later} same bytes a ended r =
+      by (refusal_of (Some bytes) history) (heard bytes a) r
     where
-      state : State
-      state = relayed plan (Heard peer bytes ∷ history)
+      lawful_now : IsLawful (Heard peer bytes ∷ history)
+      lawful_now = lawful_plain (Heard peer bytes) history (lawful s.knows) refl refl
 
-      ends : (x : Option CompanionFault) → IsRefusal x ended
-          → MayEnd (due_for plan (Heard peer bytes ∷ history) (television_told x state (facts_in live))) ended
-      ends None r =
-          refusal_ends None (due_for plan (Heard peer bytes ∷ history) (published state (facts_in live))) ended r
-      ends (Some fault) r = refusal_ends (Some fault) (Ends (end_by fault)) ended r
+      none_refused : (ended : Driven) → IsRefusal None ended → ended ≡ driven.Memory
+      none_refused ended r = grind (arith, r)
+
+      by_fault : (fault : CompanionFault) (ended : Driven) → IsRefusal (Some fault) ended
+          → Runs plan start next (record { facts = facts_in live; place = Refused fault }) (Heard peer bytes ∷ history)
+          → Stops plan start next later ended
+      by_fault fault driven.Memory r runs = stops_by_memory runs lawful_now driven.Memory refl
+      by_fault fault ended r runs =
+          stops_here runs lawful_now same ended (refusal_kind fault ended r) (refusal_own (Some fault) ended r)
+          (refusal_ends (Some fault) (Ends (end_by fault)) ended r)
+
+      by : (x : Option CompanionFault) → Runs plan start next (television_told x (relayed plan
+          (Heard peer bytes ∷ history)) (facts_in live)) (Heard peer bytes ∷ history) → IsRefusal x ended
+          → Stops plan start next later ended
+      by None runs r = stops_by_memory runs lawful_now ended (none_refused ended r)
+      by (Some fault) runs r = by_fault fault ended r runs
 
   -- or it is taken in, and the relay publishes
   pub taken_in : (bytes : List ℕ) → Adds now next (Heard peer bytes ∷ []) → refusal_of (Some bytes) history ≡ None

@@ -6,3 +6,4 @@ pub mod Laws
 pub mod Told
 pub mod Made
 pub mod SecondHop
+pub mod Staying

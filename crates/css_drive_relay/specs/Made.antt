@@ -1,5 +1,5 @@
 -- Which turns a relay has made whose last visit is done, or for which every dial failed.
-use Rattle.std.specs.Prelude.{◌≡◌, ◌⊎◌, ◌+◌, ◌||◌, Bool, true, false, is_some, None, ⊤}
+use Rattle.std.specs.Prelude.{◌≡◌, ◌⊎◌, ◌+◌, ◌≤◌, ◌||◌, Bool, true, false, is_some, None, ⊤}
 use Rattle.std.specs.Option.{option_or}
 use Rattle.css_model.specs.declared.Kind.TheVariants as kind
 use Rattle.css_model.specs.History.{History}
@@ -15,7 +15,7 @@ use Rattle.css_drive_relay.specs.declared.plan.Plan.{Plan}
 -- As many turns were made as there are at most, those of earlier visits among them, or the last one was the last by its
 -- time.
 abbrev pub HasMadeAll : Plan → History → Type 0
-HasMadeAll plan history = (plan.begun.turns + turns history ≡ most_turns plan.run.limit)
+HasMadeAll plan history = (most_turns plan.run.limit ≤ plan.begun.turns + turns history)
     ⊎ (is_late plan.run.limit (option_or plan.begun.first (first_turn history))
     (option_or (this_turn history) plan.begun.turn) ≡ true)
 

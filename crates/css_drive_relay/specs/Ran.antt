@@ -1,5 +1,5 @@
 -- What a relay comes to: its visits, one after another.
-use Rattle.std.specs.Prelude.{◌≡◌, ◌⊎◌, List, [], ◌∷◌, ◌++◌, length, ⊤, ◌||◌, is_some, if◌then◌else◌, Option, Some, None}
+use Rattle.std.specs.Prelude.{◌≡◌, ◌⊎◌, ℕ, false, List, [], ◌∷◌, ◌++◌, length, ⊤, ◌||◌, is_some, Option, Some, None}
 use Rattle.std.specs.Str.{IsUtf8}
 use Rattle.css_model.specs.Explains.{IsLawful}
 use Rattle.css_model.specs.History.{History, HungUp, Listening}
@@ -10,7 +10,6 @@ use Rattle.css_drive.specs.Ends.{MayEnd, CountsNetFault, CountsDialFaults}
 use Rattle.css_drive.specs.Visits.{AreFollowed, Visit, Visiting, begun_after, entries_of, last_entries, most_visits, why}
 use Rattle.css_drive.specs.declared.driven.Driven.{Driven}
 use Rattle.css_drive.specs.declared.driven.Driven.TheVariants as driven
-use Rattle.css_drive.specs.declared.parting.Parting.{Parting}
 use Rattle.css_drive_relay.specs.Due.{due, IsProperRelay}
 use Rattle.css_drive_relay.specs.Places.{Facts, progress_of}
 use Rattle.css_drive_relay.specs.declared.begun.Begun.{Begun}
@@ -86,16 +85,11 @@ pub record IsLast (plan : Plan) (visit : Visit) (ended : Driven) : Type 0 where
   pub visited : IsVisit plan visit
   pub ends : IsOver plan visit ended ⊎ IsBroken plan visit ended
 
--- how a relay ends that made as many visits as there may be
-abbrev pub by_begun : Begun → Driven
-by_begun begun = if begun.reached then driven.Done else driven.Unreachable begun.turns
-
--- How a relay ends whose visits but for the last were followed by others: with the last, or after so many. Want of memory
--- may come before a visit.
+-- How a relay ends whose visits but for the last were followed by others: with the last, or after so many, in each of
+-- which CSS-CII was dialled.
 abbrev pub IsEnd : RelayRun → List Visit → Option Visit → Driven → Type 0
 IsEnd run visits (Some last) ended = IsLast (plan_of run (begun_after (visits_of run) visits)) last ended
-IsEnd run visits None ended =
-    (length visits ≡ most_visits) × (ended ≡ by_begun (begun_after (visits_of run) visits))
+IsEnd run visits None ended = (length visits ≡ most_visits) × (ended ≡ driven.Done)
 
 -- It listened, and its calls since are those of its visits.
 pub record HasStayed (run : RelayRun) (start told : Option History) (ended : Driven) : Type 0 where

@@ -1,5 +1,5 @@
 -- How the variables of a relay's run stand for its history.
-use Rattle.std.specs.Prelude.{◌≡◌, ◌≢◌, ◌≤◌, ◌<◌, ◌+◌, ℕ, List, [], ◌∷◌, All, Some, None, IfSome, ◌⊎◌, Result, Ok, Err}
+use Rattle.std.specs.Prelude.{◌≡◌, ◌≤◌, ◌<◌, ◌+◌, ℕ, List, [], ◌∷◌, ◌++◌, All, Some, None, IfSome, ◌⊎◌, Result, Ok, Err}
 use Rattle.std.specs.Prelude.{Option, MatchResult, OnOk, IfErr, ⊤, Bool, true, false}
 use Rattle.css_model.specs.declared.Kind.TheVariants as kind
 use Rattle.css_model.specs.declared.Why.{Why}
@@ -26,11 +26,7 @@ use Rattle.css_drive.specs.declared.driven.Driven.{Driven}
 use Rattle.css_drive.specs.declared.driven.Driven.TheVariants as driven
 use Rattle.css_drive_relay.specs.Places.{Place, Greeting, Telling, Asked, Dropping, Served, Taken, Facts, Progress}
 use Rattle.css_drive_relay.specs.Places.{progress_of, telling}
-use Rattle.css_drive.specs.Visits.{AreFollowed, IsFollowed, begun_after, entries_of}
-use Rattle.css_drive.specs.Visits.{Visit as Visited}
-use Rattle.css_drive_relay.specs.Ran.{IsLast, IsRelayEnd, IsVisit, begun_by, facts_after, visits_of}
-use Rattle.css_drive_relay.specs.declared.begun.Begun.{Begun}
-use Rattle.css_drive_relay.specs.declared.config.RelayRun.{RelayRun}
+use Rattle.css_drive_relay.specs.Ran.{IsRelayEnd, IsVisit}
 use Rattle.css_drive_relay.specs.Due.{due_at, IsProperRelay}
 use Rattle.css_drive_relay.specs.declared.plan.Plan.{Plan}
 use Rattle.css_drive_relay.specs.declared.live.Live.{Live}
@@ -239,29 +235,3 @@ pub record Hangs (old new : Shown) (wanted : History) (result : Result (Unit {0}
   pub told : new.told ≡ with_entries made old.told
   pub ends : MatchResult result (λ _. (left ≡ []) × (new.counts.faults ≡ old.counts.faults))
       (λ ended. IsFault ended × CountsNetFault old.counts.faults new.counts.faults ended)
-
--- ---- visits
--- another visit follows, to which this goes over
-pub record GoesOn (plan : Plan) (start now : Shown) (next : Begun) : Type 0 where
-  pub visit : Visited
-  pub followed : IsFollowed (visits_of plan.run) plan.begun visit
-  pub next_so : next ≡ begun_by plan (facts_after plan visit)
-  pub told : now.told ≡ with_entries (visit.hung ++ visit.history) start.told
-  pub faults : now.counts.faults ≡ start.counts.faults
-
--- none does
-pub record IsDone (plan : Plan) (start now : Shown) (ended : Driven) : Type 0 where
-  pub visit : Visited
-  pub last : IsLast plan visit ended
-  pub told : now.told ≡ with_entries (visit.hung ++ visit.history) start.told
-  pub faults : CountsNetFault start.counts.faults now.counts.faults ended
-  pub kind : IsRelayEnd ended
-
--- each of the visits so far is followed by another one, which comes next
-pub record SoFar (run : RelayRun) (begun : Begun) (start now : Shown) (count : ℕ) : Type 0 where
-  pub visits : List Visited
-  pub followed : AreFollowed (visits_of run) visits
-  pub begun_so : begun ≡ begun_after (visits_of run) visits
-  pub told : now.told ≡ with_entries (entries_of visits) start.told
-  pub faults : now.counts.faults ≡ start.counts.faults
-  pub counted : length visits ≡ count

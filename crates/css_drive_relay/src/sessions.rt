@@ -1,15 +1,12 @@
 //! What a relay does with sessions: those that were opened, the television's text, texts of the others, and their end.
-ghost use Rattle.std.specs.Prelude.{◌≡◌, ◌≤◌, ◌∷◌, ◌⊎◌, ℕ, List, [], length, true, false, Some, None, OnOk, IfOk};
-ghost use Rattle.std.specs.Prelude.{IfErr, MatchResult};
-ghost use Rattle.css_model.specs.History.{History};
+ghost use Rattle.std.specs.Prelude.{◌≡◌, ◌∷◌, ◌&&◌, ℕ, List, [], true, is_some, not};
 ghost use Rattle.css_relay.specs.Relays.{relayed_state};
-ghost use Rattle.css_drive.specs.CompanionStanding.{Shown, shown, IsEarly};
-ghost use Rattle.css_drive.specs.CompanionTurns.{goes_on};
-ghost use Rattle.css_drive_relay.specs.Due.{final};
+ghost use Rattle.css_drive.specs.CompanionStanding.{shown};
 ghost use Rattle.css_drive_relay.specs.Places as places;
 ghost use Rattle.css_drive_relay.specs.Places.{Served, Asked, welcomed, published};
-ghost use Rattle.css_drive_relay.specs.Standing.{facts_in, placed, stood, visiting};
-ghost use Rattle.css_drive_relay.specs.Standing.{IsAt, Keeps, Knows, Leads, Stands, Stops};
+ghost use Rattle.css_drive_relay.specs.Ran.{hang_ups, hung_all};
+ghost use Rattle.css_drive_relay.specs.Standing.{facts_in, goes_on_at, placed, visiting};
+ghost use Rattle.css_drive_relay.specs.Standing.{Hangs, IsAt, Keeps, Leads, LeadsBy};
 
 use crate::live::{Live, Published};
 use crate::plan::Plan;
@@ -145,6 +142,13 @@ fn publish<O: Outside>(live: &mut Live, outside: &mut O) -> Result<(), Driven>
     }
 }
 
+/// Whether a session was open and isn't any more.
+fn has_closed(was: Option<u32>, is: Option<u32>) -> bool
+    ensures { result ≡ (is_some was && not (is_some is)) }
+{
+    was.is_some() && is.is_none()
+}
+
 /// Hears the television's session, where it is open. What is new is told to each accepted session. Tells whether the
 /// visit goes on: it ends with the session.
 pub fn hear_television<O: Outside>(live: &mut Live, outside: &mut O) -> Result<bool, Driven>
@@ -152,13 +156,13 @@ pub fn hear_television<O: Outside>(live: &mut Live, outside: &mut O) -> Result<b
         (placed welcomed) (λ on. IsAt (goes_on_at (λ f. Asked f.peers) on)) result }
     ensures keeps { Keeps (O.counts outside.old) (O.counts outside.new) live.old live.new result }
 {
-    let was_open = live.own.cii_open.is_some();
+    let was = live.own.cii_open;
     let told = hear(live.alloc, live.relay.companion(), outside, &mut live.own)?;
     if told {
         publish(live, outside)?;
         return Ok(true);
     }
-    if was_open && live.own.cii_open.is_none() {
+    if has_closed(was, live.own.cii_open) {
         live.parting = Some(Parting::Closed(Session::Cii));
         return Ok(false);
     }
@@ -167,9 +171,9 @@ pub fn hear_television<O: Outside>(live: &mut Live, outside: &mut O) -> Result<b
 
 /// Hangs up the accepted sessions, in the order in which they came.
 fn hang_up_accepted<O: Outside>(live: &Live, outside: &mut O) -> Result<(), Driven>
-    ensures hangs { Hangs O.told O.counts outside.old outside.new (hung_all live.now.peers.items) result }
+    ensures hangs { Hangs (shown (O.told outside.old) (O.counts outside.old))
+        (shown (O.told outside.new) (O.counts outside.new)) (hung_all live.now.peers.items) result }
     ensures dials { (O.counts outside.new).dial_faults ≡ (O.counts outside.old).dial_faults }
-    ensures early { IfErr result IsFault }
 {
     for peer in &live.peers {
         hang_up(outside, *peer)?;
@@ -179,7 +183,8 @@ fn hang_up_accepted<O: Outside>(live: &Live, outside: &mut O) -> Result<(), Driv
 
 /// Hangs up all open sessions: the accepted ones, and then that of the television.
 pub fn hang_up_all<O: Outside>(live: &Live, outside: &mut O) -> Result<(), Driven>
-    ensures hangs { Hangs O.told O.counts outside.old outside.new (hang_ups (facts_in live.now)) result }
+    ensures hangs { Hangs (shown (O.told outside.old) (O.counts outside.old))
+        (shown (O.told outside.new) (O.counts outside.new)) (hang_ups (facts_in live.now)) result }
     ensures dials { (O.counts outside.new).dial_faults ≡ (O.counts outside.old).dial_faults }
 {
     hang_up_accepted(live, outside)?;

@@ -12,8 +12,8 @@ ghost use Rattle.css_drive_relay.specs.Standing.{goes_on_at, placed, stood};
 use crate::live::Live;
 use crate::plan::Plan;
 use crate::television;
-use css_drive::{Driven, Parting};
 use css_drive::calls::{end_of, send_datagram};
+use css_drive::{Driven, Parting};
 use css_outside::{Clocked, Outside, Why};
 use css_wc::decode;
 
@@ -98,8 +98,9 @@ fn land<O: Outside>(live: &mut Live, outside: &mut O, bytes: &[u8]) -> Result<bo
     or_memory(live.relay.land(bytes, landed.reading))?;
     if contradicts {
         live.parting = Some(Parting::Disagree);
+        return Ok(false);
     }
-    Ok(!contradicts)
+    Ok(true)
 }
 
 /// Takes a datagram, if there is one: a request is answered, and anything else lands. Tells whether the visit goes on.

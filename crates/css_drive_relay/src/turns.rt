@@ -1,29 +1,21 @@
 //! The turns of a relay's visit over any devices.
-ghost use Rattle.std.specs.Prelude.{◌≡◌, ◌≤◌, ◌<◌, ◌+◌, [], true, false, OnOk, IfOk, IfErr, IfSome, None};
-ghost use Rattle.css_outside.specs.Faults.{HasRisen};
+ghost use Rattle.std.specs.Prelude.{◌≡◌, ◌≤◌, ◌<◌, ◌+◌, ◌⊎◌, ℕ, [], true, false, OnOk, IfErr, IfSome, None};
+ghost use Rattle.css_model.specs.History.{History};
 ghost use Rattle.css_outside.specs.Outsides.{Counts};
-ghost use Rattle.css_drive.specs.CompanionStanding.{Shown, shown, IsEarly};
-ghost use Rattle.css_drive.specs.Ends.{CountsDialFaults};
+ghost use Rattle.css_drive.specs.CompanionStanding.{Shown, shown, IsEarly, IsFault};
 ghost use Rattle.css_drive_relay.specs.Due.{final, is_left};
-ghost use Rattle.css_drive_relay.specs.Places.{Asked, Begun as Start, beginning};
-ghost use Rattle.css_drive_relay.specs.Ran.{IsWritable, begun_by};
-ghost use Rattle.css_drive_relay.specs.Standing.{facts_in, placed, stood, HasTried, IsAt, Keeps, Knows};
-ghost use Rattle.css_drive_relay.specs.Standing.{Leads, Stands, Stops};
+ghost use Rattle.css_drive_relay.specs.Places.{Asked, Begun as Start, Facts};
+ghost use Rattle.css_drive_relay.specs.Standing.{facts_in, placed, stood, HasDialled, HasTried, IsAt, Keeps};
+ghost use Rattle.css_drive_relay.specs.Standing.{Leads, Stands, Stops, UnlessFault};
 
-use crate::begun::Begun;
-use crate::live::{Live, Published};
+use crate::live::Live;
 use crate::plan::Plan;
 use crate::sessions::{Visit, hear_television, visit_all, welcome};
 use crate::stages::{read, serve};
 use crate::television::dial_and_ask;
-use css_cii::State;
-use css_companion::CompanionConfig;
 use css_drive::Driven;
 use css_drive::timing::{goes_on, is_late};
-use css_num::Memory;
 use css_outside::{Outside, Why};
-use css_relay::Relay;
-use std::alloc::Global;
 
 /// Makes the calls of a turn: to the television, to further companions, and what it hears of all of them. The turn ends
 /// where the visit does.
@@ -42,11 +34,13 @@ fn calls<O: Outside>(plan: &Plan, live: &mut Live, outside: &mut O) -> Result<()
         &plan.run.cii,
         plan.run.ask_every,
     )?;
-    if !serve(live, outside)? {
+    let served = serve(live, outside)?;
+    if !served {
         return Ok(());
     }
     welcome(live, outside)?;
-    if !hear_television(live, outside)? {
+    let heard = hear_television(live, outside)?;
+    if !heard {
         return Ok(());
     }
     visit_all(live, outside, &Visit::Hear)
@@ -61,12 +55,13 @@ fn turn<O: Outside>(plan: &Plan, live: &mut Live, outside: &mut O) -> Result<(),
         → Leads O.told O.counts plan.now outside.old outside.new live.old live.new
         (placed (λ f. Asked [])) (IsAt (λ f. Asked [])) result }
     ensures floor { OnOk result (live.new.relay.companion.client.floor ≤ (O.counts outside.new).last) }
-    ensures begun { IfSome live.new.own.first (λ _. 1 ≤ live.new.own.made) }
+    ensures begun { UnlessFault (IfSome live.new.own.first (λ _. 1 ≤ live.new.own.made)) result }
     ensures made { OnOk result (live.new.own.made ≡ live.old.own.made + 1) }
     ensures dials { (O.counts outside.old).dial_faults ≤ (O.counts outside.new).dial_faults }
     ensures tried { (before : Counts) → before.dial_faults ≤ (O.counts outside.old).dial_faults
         → HasTried plan.now before (O.counts outside.old) live.old.own
         → UnlessFault (HasTried plan.now before (O.counts outside.new) live.new.own) result }
+    ensures early { IfErr result IsEarly }
 {
     let reading = read(live, outside, Why::Turn)?.reading;
     live.own.begin(reading);
@@ -74,6 +69,14 @@ fn turn<O: Outside>(plan: &Plan, live: &mut Live, outside: &mut O) -> Result<(),
         return Ok(());
     }
     calls(plan, live, outside)
+}
+
+/// Whether a turn is left.
+fn has_turn(plan: &Plan, live: &Live) -> bool
+    ensures { result ≡ is_left plan.now (facts_in live.now) }
+{
+    let own = &live.own;
+    live.parting.is_none() && goes_on(plan.run.limit, own.first, own.turn, own.made)
 }
 
 /// How a visit's run ends of which no turn is left.
@@ -91,11 +94,12 @@ fn ending(plan: &Plan, own: &css_drive::Live) -> Driven
 pub fn make_turns<O: Outside>(plan: &Plan, live: &mut Live, outside: &mut O) -> Driven
     requires floor { live.old.relay.companion.client.floor ≤ (O.counts outside.old).last }
     requires begun { IfSome live.old.own.first (λ _. 1 ≤ live.old.own.made) }
+    requires whole { live.old.parting ≡ None }
     ensures ends { (start : Shown) (history : History)
         → Stands plan.now start (shown (O.told outside.old) (O.counts outside.old)) live.old.relay
         (stood live.old (Asked [])) history
         → Stops plan.now start (shown (O.told outside.new) (O.counts outside.new)) live.new result }
-    ensures begun { IfSome live.new.own.first (λ _. 1 ≤ live.new.own.made) }
+    ensures begun { IsFault result ⊎ IfSome live.new.own.first (λ _. 1 ≤ live.new.own.made) }
     ensures dials { (O.counts outside.old).dial_faults ≤ (O.counts outside.new).dial_faults }
     ensures tried { (before : Counts) → before.dial_faults ≤ (O.counts outside.old).dial_faults
         → HasTried plan.now before (O.counts outside.old) live.old.own
@@ -103,9 +107,7 @@ pub fn make_turns<O: Outside>(plan: &Plan, live: &mut Live, outside: &mut O) -> 
     ensures unreachable { (turns : ℕ) → result ≡ Driven.Unreachable turns
         → (1 ≤ live.new.own.made) × (plan.now.begun.reached ≡ false) × (live.new.own.cii ≡ None) }
 {
-    'turns: while live.parting.is_none()
-        && goes_on(plan.run.limit, live.own.first, live.own.turn, live.own.made)
-    {
+    'turns: while has_turn(plan, live) {
         if let Err(ended) = turn(plan, live, outside) {
             return ended;
         }

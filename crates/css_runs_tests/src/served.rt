@@ -29,10 +29,11 @@ fn run_of(rt: &impl Abort, alloc: Global, end: End, row: &Row) -> Noted {
 
 /// Tables of runs, each with its end.
 #[rattlefmt::skip]
-const SERVED: [(End, &[Row]); 8] = [
+const SERVED: [(End, &[Row]); 9] = [
     (End::Television, tvs::CALLS), (End::Television, tvs::SCRIPTS), (End::Television, tvs::LIMITS),
     (End::Television, tvs::DATAGRAMS), (End::Television, tvs::SESSIONS),
     (End::Relay, relays::CALLS), (End::Relay, relays::TEXTS), (End::Relay, relays::ENDS),
+    (End::Relay, relays::VISITS),
 ];
 
 #[test]

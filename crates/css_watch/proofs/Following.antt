@@ -26,7 +26,7 @@ use Rattle.css_watch.specs.Visits.{end_text}
 use Rattle.css_watch.specs.Visits.{by_reports, fault_of, unwritten, hang_ups, last_end, told_in, visit_text, why}
 use Rattle.css_watch.specs.declared.ending.Watched.{Watched}
 use Rattle.css_watch.specs.declared.ending.Watched.TheVariants as watched
-use Rattle.css_watch.specs.declared.parting.Parting.{Parting}
+use Rattle.css_drive.specs.declared.parting.Parting.{Parting}
 use Rattle.css_watch.specs.declared.plan.Plan.{Plan}
 use Rattle.css_watch.specs.declared.progress.Begun.{Begun}
 use Rattle.css_watch.specs.declared.progress.Progress.{Progress}

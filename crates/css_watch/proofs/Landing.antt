@@ -21,7 +21,7 @@ use Rattle.css_span.specs.Frontiers.{Answers}
 use Rattle.css_watch.specs.Progress.{after_landing, judged}
 use Rattle.css_watch.specs.Telling.{landing_line, lines_by, parting_at, slept_lines, text_of}
 use Rattle.css_watch.specs.Watching.{Accepts, IsOf, IsPossibleAt, IsStep, Says}
-use Rattle.css_watch.specs.declared.parting.Parting.{Parting}
+use Rattle.css_drive.specs.declared.parting.Parting.{Parting}
 use Rattle.css_watch.specs.declared.plan.Plan.{Plan}
 use Rattle.css_watch.specs.declared.progress.Progress.{Progress}
 use Rattle.css_watch.proofs.Telling.{no_prefix}

@@ -20,7 +20,7 @@ use Rattle.css_watch.specs.Progress.{fresh, with_visit}
 use Rattle.css_watch.specs.Telling.{Told, told_of}
 use Rattle.css_watch.specs.Watching.{AreFrom, GoesOn, IsFresh, IsTelling, IsToldBy}
 use Rattle.css_watch.specs.Visits.{EndsAtCause}
-use Rattle.css_watch.specs.declared.parting.Parting.{Parting}
+use Rattle.css_drive.specs.declared.parting.Parting.{Parting}
 use Rattle.css_watch.specs.declared.plan.Plan.{Plan}
 use Rattle.css_watch.specs.declared.progress.Begun.{Begun}
 use Rattle.css_watch.specs.declared.progress.Progress.{Progress}

@@ -23,8 +23,8 @@ use Rattle.css_watch.specs.Telling as telling
 use Rattle.css_watch.specs.Telling.{Told, told_of, text_of, lines_by, answers_after}
 use Rattle.css_watch.specs.Watching.{Accepts, AreFrom, GoesOn, IsOf, IsStep, IsTelling, IsToldBy, Steps}
 use Rattle.css_watch.specs.Watching.{Wakes, Writes, over_by, parting_by}
-use Rattle.css_watch.specs.declared.parting.Parting.{Parting}
-use Rattle.css_watch.specs.declared.parting.Parting.TheVariants as parting
+use Rattle.css_drive.specs.declared.parting.Parting.{Parting}
+use Rattle.css_drive.specs.declared.parting.Parting.TheVariants as parting
 use Rattle.css_watch.specs.declared.plan.Plan.{Plan}
 use Rattle.css_watch.specs.declared.progress.Progress.{Progress}
 

@@ -10,8 +10,9 @@ use Rattle.css_drive.specs.declared.driven.Driven.{Driven}
 use Rattle.css_drive.specs.declared.driven.Driven.TheVariants as driven
 use Rattle.css_watch.specs.Following.{CountsDials, Ends, EndsBy, Follows, IsUnreachableBy, SoFar, Stage}
 use Rattle.css_watch.specs.Progress.{nothing_begun}
-use Rattle.css_watch.specs.Visits.{CountsDialFaults, CountsNetFault, CountsWriteFault, HoldsAll, IsFollowed, IsLast}
-use Rattle.css_watch.specs.Visits.{Watches, by_reports, entries_of, most_visits, told_in, visit_text, written}
+use Rattle.css_drive.specs.Visits.{IsFollowed, entries_of, most_visits}
+use Rattle.css_watch.specs.Visits.{CountsDialFaults, CountsNetFault, CountsWriteFault, HoldsAll, IsLast, Watches}
+use Rattle.css_watch.specs.Visits.{by_reports, told_in, visit_text, visits_of, written}
 use Rattle.css_watch.specs.declared.ending.Watched.{Watched}
 use Rattle.css_watch.specs.declared.ending.Watched.TheVariants as watched
 use Rattle.css_watch.specs.declared.visit.Visited.{Visited}
@@ -38,7 +39,7 @@ so_far_first plan begun start e = record {
 pub so_far_next : (plan : Plan) (begun next : Begun) (start mid now : Stage) (count : ℕ)
     → SoFar plan begun start mid count → Follows plan begun mid now next → SoFar plan next start now (count + 1)
 so_far_next plan begun next start mid now count s f =
-    let P : Begun → Type 0 = λ x. IsFollowed plan x f.visit in
+    let P : Begun → Type 0 = λ x. IsFollowed (visits_of plan) x f.visit in
     let T : List ℕ → Type 0 = λ x. Appends start.holds now.holds x in
     record {
       visits = f.visit ∷ s.visits;

@@ -12,12 +12,12 @@ use Rattle.css_drive.specs.declared.driven.Driven.TheVariants as driven
 use Rattle.css_watch_lines.specs.Lines.{line_text, Ended}
 use Rattle.css_watch.specs.Progress.{fresh, told_number, with_visit}
 use Rattle.css_watch.specs.Telling.{Told, told_of, text_of}
-use Rattle.css_watch.specs.Visits.{Visit, IsVisit, IsFollowed, IsLast, IsFault, HoldsAll, told_in, visit_text, hang_ups}
-use Rattle.css_watch.specs.Visits.{AreFollowed, CountsDialFaults, CountsNetFault, CountsWriteFault, begun_after}
-use Rattle.css_watch.specs.Visits.{entries_of, written}
+use Rattle.css_drive.specs.Visits.{AreFollowed, IsFollowed, Visit, begun_after, entries_of}
+use Rattle.css_watch.specs.Visits.{IsVisit, IsLast, IsFault, HoldsAll, told_in, visit_text, hang_ups, visits_of}
+use Rattle.css_watch.specs.Visits.{CountsDialFaults, CountsNetFault, CountsWriteFault, written}
 use Rattle.css_watch.specs.declared.ending.Watched.{Watched}
 use Rattle.css_watch.specs.declared.ending.Watched.TheVariants as watched
-use Rattle.css_watch.specs.declared.parting.Parting.{Parting}
+use Rattle.css_drive.specs.declared.parting.Parting.{Parting}
 use Rattle.css_watch.specs.declared.plan.Plan.{Plan}
 use Rattle.css_watch.specs.declared.progress.Begun.{Begun}
 use Rattle.css_watch.specs.declared.progress.Progress.{Progress}
@@ -112,7 +112,7 @@ Leaves (Some why) end before now was is result = LeavesAll end before now was is
 -- ---- a visit
 pub record Follows (plan : Plan) (begun : Begun) (start now : Stage) (next : Begun) : Type 0 where
   pub visit : Visit
-  pub is_followed : IsFollowed plan begun visit
+  pub is_followed : IsFollowed (visits_of plan) begun visit
   pub next_so : next ≡ (told_in plan begun visit).progress.begun
   pub told : now.told ≡ with_entries (visit.hung ++ visit.history) start.told
   pub wrote : Appends start.holds now.holds (visit_text plan begun visit)
@@ -150,8 +150,8 @@ CountsDials before now (visited.Over result) = CountsDialFaults before now resul
 -- Each of them is followed by another one, which comes next.
 pub record SoFar (plan : Plan) (begun : Begun) (start now : Stage) (count : ℕ) : Type 0 where
   pub visits : List Visit
-  pub followed : AreFollowed plan visits
-  pub begun_so : begun ≡ begun_after plan visits
+  pub followed : AreFollowed (visits_of plan) visits
+  pub begun_so : begun ≡ begun_after (visits_of plan) visits
   pub told : now.told ≡ with_entries (entries_of visits) start.told
   pub wrote : Appends start.holds now.holds (written plan visits)
   pub faults : now.faults ≡ start.faults

@@ -36,8 +36,8 @@ use Rattle.css_watch_lines.specs.Words.{landing_words}
 use Rattle.css_watch_lines.specs.declared.known.Known.{Known as Ticking}
 use Rattle.css_watch_lines.specs.declared.known.Ticks.{Ticks}
 use Rattle.css_watch.specs.Progress.{progress_after, judged, reports_now, tried_by, counted, told_number}
-use Rattle.css_watch.specs.declared.parting.Parting.{Parting}
-use Rattle.css_watch.specs.declared.parting.Parting.TheVariants as parting
+use Rattle.css_drive.specs.declared.parting.Parting.{Parting}
+use Rattle.css_drive.specs.declared.parting.Parting.TheVariants as parting
 use Rattle.css_watch.specs.declared.plan.Plan.{Plan}
 use Rattle.css_watch.specs.declared.progress.Begun.{Begun}
 use Rattle.css_watch.specs.declared.progress.Progress.{Progress}

@@ -9,43 +9,23 @@ use Rattle.css_outside.specs.Faults.{HasRisen, CountsCall}
 use Rattle.css_outside.specs.Outsides.{with_entries}
 use Rattle.css_outside.specs.declared.fault.OutFault.{OutFault}
 use Rattle.css_outside.specs.declared.fault.OutFault.TheVariants as fault
-use Rattle.css_cii.specs.FaultWords as cii
-use Rattle.css_cii.specs.Names.{json_name}
 use Rattle.css_drive.specs.CompanionDue.{due, IsProperRun}
 use Rattle.css_drive.specs.CompanionReports.{KeepsPromises}
 use Rattle.css_drive.specs.CompanionStanding.{hung}
 use Rattle.css_drive.specs.Ends.{MayEnd}
 use Rattle.css_drive.specs.Notes.{noted}
+use Rattle.css_drive.specs.Visits.{AreFollowed, Visit, Visiting, begun_after, entries_of, last_entries, most_visits, why}
 use Rattle.css_drive.specs.declared.driven.Driven.{Driven}
 use Rattle.css_drive.specs.declared.driven.Driven.TheVariants as driven
-use Rattle.css_drive.specs.declared.session.Session.TheVariants as session
 use Rattle.css_watch_lines.specs.Lines.{line_text, Ended}
 use Rattle.css_watch.specs.Progress.{fresh, nothing_begun, told_number, with_visit}
 use Rattle.css_watch.specs.Telling.{Told, told_of, text_of}
 use Rattle.css_watch.specs.declared.ending.Watched.{Watched}
 use Rattle.css_watch.specs.declared.ending.Watched.TheVariants as watched
-use Rattle.css_watch.specs.declared.parting.Parting.{Parting}
-use Rattle.css_watch.specs.declared.parting.Parting.TheVariants as parting
+use Rattle.css_drive.specs.declared.parting.Parting.{Parting}
 use Rattle.css_watch.specs.declared.plan.Plan.{Plan}
 use Rattle.css_watch.specs.declared.progress.Begun.{Begun}
 use Rattle.css_watch.specs.declared.progress.Progress.{Progress}
-
--- ---- why a visit ends
--- in words, where its observer ends it and another visit follows
-abbrev pub parting_words : Option Parting → Option (List ℕ)
-parting_words (Some (parting.Closed session.Cii)) = Some (codes "closed CII")
-parting_words (Some (parting.Closed session.Ts)) = Some (codes "closed TS")
-parting_words (Some parting.Disagree) = Some (codes "disagree")
-parting_words _ = None
-
--- in words, where another visit follows
-abbrev pub why : Driven → Option Parting → Option (List ℕ)
-why (driven.BadCii text reason) parting =
-    Some (codes "CII text " ++ decimal text ++ codes ": " ++ cii.fault_words reason)
-why (driven.Moved property old new) parting = Some (codes "moved " ++ json_name property)
-why (driven.BadUrl property) parting = Some (codes "bad " ++ json_name property)
-why driven.WriteFault parting = parting_words parting
-why _ parting = None
 
 -- ---- how a watch ends
 abbrev pub fault_of : OutFault → Watched
@@ -86,12 +66,6 @@ pub record Hangs (before now : Option History) (was is : ℕ) (wanted : History)
   pub faults : CountsCall was is result
 
 -- ---- visits
--- the calls of a visit's run and the hang-ups after it, each with the newest first, and how the run ended
-pub record Visit : Type 0 where
-  pub history : History
-  pub hung : History
-  pub ended : Driven
-
 -- what a visit told that was begun after these
 abbrev pub told_in : Plan → Begun → Visit → Told
 told_in plan begun visit = told_of plan (fresh (with_visit begun)) (noted plan.run visit.history)
@@ -125,29 +99,19 @@ pub record IsVisit (plan : Plan) (begun : Begun) (visit : Visit) : Type 0 where
   pub promised : KeepsPromises plan.run visit.history
   pub at_cause : EndsAtCause (told_in plan begun visit).parting visit.ended
 
--- another visit follows, and the open sessions were hung up
-pub record IsFollowed (plan : Plan) (begun : Begun) (visit : Visit) : Type 0 where
-  pub visited : IsVisit plan begun visit
-  pub words : List ℕ
-  pub has_cause : why visit.ended (told_in plan begun visit).parting ≡ Some words
-  pub hangs : visit.hung ≡ hang_ups (told_in plan begun visit).progress
-
-abbrev pub begun_after : Plan → List Visit → Begun
-begun_after plan [] = nothing_begun
-begun_after plan (visit ∷ older) = (told_in plan (begun_after plan older) visit).progress.begun
-
--- each of the visits, the newest of which stands first, is followed by another one
-abbrev pub AreFollowed : Plan → List Visit → Type 0
-AreFollowed plan [] = Unit {0}
-AreFollowed plan (visit ∷ older) = IsFollowed plan (begun_after plan older) visit × AreFollowed plan older
-
-abbrev pub entries_of : List Visit → History
-entries_of [] = []
-entries_of (visit ∷ older) = visit.hung ++ visit.history ++ entries_of older
+-- What visits are to a watch.
+abbrev pub visits_of : Plan → Visiting Begun
+visits_of plan = record {
+  first = nothing_begun;
+  is_visit = IsVisit plan;
+  parting = λ begun visit. (told_in plan begun visit).parting;
+  hang_ups = λ begun visit. hang_ups (told_in plan begun visit).progress;
+  next = λ begun visit. (told_in plan begun visit).progress.begun;
+}
 
 abbrev pub written : Plan → List Visit → List ℕ
 written plan [] = []
-written plan (visit ∷ older) = written plan older ++ visit_text plan (begun_after plan older) visit
+written plan (visit ∷ older) = written plan older ++ visit_text plan (begun_after (visits_of plan) older) visit
 
 -- ---- the watch
 -- a fault of a device, or want of memory
@@ -171,19 +135,11 @@ HoldsAll held holds whole watched.WriteFault = AppendsPrefix held holds whole
 HoldsAll held holds whole watched.Memory = AppendsPrefix held holds whole
 HoldsAll held holds whole _ = Appends held holds whole
 
--- the greatest number of visits, so that a watch ends over a clock that stands still too
-abbrev pub most_visits : ℕ
-most_visits = 1099511627776
-
 -- how a watch ends whose visits but for the last were followed by others: with the last, or after so many
 abbrev pub IsEnd : Plan → List Visit → Option Visit → Watched → Type 0
-IsEnd plan visits (Some last) result = IsLast plan (begun_after plan visits) last result
+IsEnd plan visits (Some last) result = IsLast plan (begun_after (visits_of plan) visits) last result
 IsEnd plan visits None result =
-    (length visits ≡ most_visits) × (result ≡ by_reports (begun_after plan visits))
-
-abbrev pub last_entries : Option Visit → History
-last_entries None = []
-last_entries (Some visit) = visit.hung ++ visit.history
+    (length visits ≡ most_visits) × (result ≡ by_reports (begun_after (visits_of plan) visits))
 
 abbrev pub last_text : Plan → Begun → Option Visit → List ℕ
 last_text plan begun None = []
@@ -193,11 +149,11 @@ last_text plan begun (Some visit) = visit_text plan begun visit
 pub record Watches (plan : Plan) (before now : Option History) (held holds : Option (List ℕ)) (result : Watched)
     : Type 0 where
   pub visits : List Visit
-  pub followed : AreFollowed plan visits
+  pub followed : AreFollowed (visits_of plan) visits
   pub last : Option Visit
   pub is_end : IsEnd plan visits last result
   pub told : now ≡ with_entries (last_entries last ++ entries_of visits) before
-  pub wrote : HoldsAll held holds (written plan visits ++ last_text plan (begun_after plan visits) last) result
+  pub wrote : HoldsAll held holds (written plan visits ++ last_text plan (begun_after (visits_of plan) visits) last) result
 
 -- ---- counts
 abbrev pub CountsNetFault : ℕ → ℕ → Watched → Type 0

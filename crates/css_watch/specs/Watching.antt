@@ -18,7 +18,7 @@ use Rattle.css_span.specs.Frontiers.{Answers}
 use Rattle.css_watch.specs.Progress.{fresh, after_sleep, progress_after}
 use Rattle.css_watch.specs.Telling as telling
 use Rattle.css_watch.specs.Telling.{Told, told_of, text_of, lines_by, answers_after, parting_at}
-use Rattle.css_watch.specs.declared.parting.Parting.{Parting}
+use Rattle.css_drive.specs.declared.parting.Parting.{Parting}
 use Rattle.css_watch.specs.declared.plan.Plan.{Plan}
 use Rattle.css_watch.specs.declared.progress.Begun.{Begun}
 use Rattle.css_watch.specs.declared.progress.Progress.{Progress}

@@ -9,7 +9,6 @@ mod config;
 mod detail;
 mod ending;
 mod event_lines;
-mod parting;
 mod plan;
 mod progress;
 mod progress_steps;
@@ -18,8 +17,8 @@ mod visiting;
 mod watching;
 
 pub use config::WatchConfig;
+pub use css_drive::Parting;
 pub use ending::Watched;
-pub use parting::Parting;
 pub use plan::Plan;
 pub use progress::{Begun, Progress, Tried};
 pub use visiting::watch;

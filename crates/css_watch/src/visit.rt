@@ -10,6 +10,8 @@ ghost use Rattle.css_model.specs.History.{History};
 ghost use Rattle.css_watch.specs.Following.{CountsDials, EndsBy, HasRun, IsRun, IsUnreachableBy, Leaves, Makes, Parts};
 ghost use Rattle.css_watch.specs.Following.{Stage, stage};
 ghost use Rattle.css_watch.specs.Progress.{fresh, with_visit};
+ghost use Rattle.css_drive.specs.Visits as visited;
+ghost use Rattle.css_drive.specs.Visits.{parting_words};
 ghost use Rattle.css_watch.specs.Visits as visits;
 ghost use Rattle.css_watch.specs.Visits.{Hangs, hang_ups};
 ghost use Rattle.css_watch.specs.Watching.{IsFresh};
@@ -17,14 +19,13 @@ ghost use Rattle.css_watch.specs.declared.plan.Plan.{Plan as Planned};
 ghost use Rattle.css_watch.specs.declared.progress.Begun.{Begun as Started};
 
 use crate::ending::Watched;
-use crate::parting::Parting;
 use crate::plan::Plan;
 use crate::progress::{Begun, Progress};
 use crate::progress_steps::told_number;
 use crate::watching::{Watching, put};
 use css_agree::Agree;
 use css_companion::Companion;
-use css_drive::{Driven, Session, companion_of, drive};
+use css_drive::{Driven, Parting, Session, companion_of, drive};
 use css_num::Memory;
 use css_outside::{OutFault, Outside, Sink};
 use css_watch_lines::end_line;
@@ -100,9 +101,9 @@ fn end_of(ended: &Driven, parting: &Option<Parting>, begun: &Begun) -> Watched
     }
 }
 
-/// Why a visit ends that its observer ends, but for the last turn.
-fn parting_words(parting: &Option<Parting>) -> Option<&'static str>
-    ensures { option_map (λ words. words.now) result ≡ visits.parting_words parting.now }
+/// Why a visit was cut short, but for the last turn.
+fn cut_short(parting: &Option<Parting>) -> Option<&'static str>
+    ensures { option_map (λ words. words.now) result ≡ parting_words parting.now }
 {
     match parting {
         Some(Parting::Closed(Session::Cii)) => Some("closed CII"),
@@ -112,19 +113,28 @@ fn parting_words(parting: &Option<Parting>) -> Option<&'static str>
     }
 }
 
+/// The words of a visit that was cut short, where another one follows.
+fn words(alloc: Global, parting: &Option<Parting>) -> Result<Option<String>, Memory>
+    ensures words { IfOk result (λ words. option_map string_bytes words ≡ parting_words parting.now) }
+    ensures err { OnErr result (parting_words parting.now ≢ None) }
+{
+    match cut_short(parting) {
+        None => Ok(None),
+        Some(words) => Ok(Some(String::from_str(alloc, words)?)),
+    }
+}
+
 /// Why a visit ended, where another one follows.
 fn why(alloc: Global, ended: &Driven, parting: &Option<Parting>) -> Result<Option<String>, Memory>
-    ensures words { IfOk result (λ words. option_map string_bytes words ≡ visits.why ended.now parting.now) }
-    ensures err { OnErr result (visits.why ended.now parting.now ≢ None) }
+    ensures words { IfOk result (λ words. option_map string_bytes words ≡ visited.why ended.now parting.now) }
+    ensures err { OnErr result (visited.why ended.now parting.now ≢ None) }
 {
     match ended {
         Driven::BadCii { text, fault } => Ok(Some(format!(in alloc; "CII text {text}: {fault}")?)),
         Driven::Moved { property, .. } => Ok(Some(format!(in alloc; "moved {property}")?)),
         Driven::BadUrl { property } => Ok(Some(format!(in alloc; "bad {property}")?)),
-        Driven::WriteFault => match parting_words(parting) {
-            None => Ok(None),
-            Some(words) => Ok(Some(String::from_str(alloc, words)?)),
-        },
+        Driven::WriteFault => words(alloc, parting),
+        Driven::Done => words(alloc, parting),
         _ => Ok(None),
     }
 }

@@ -17,14 +17,13 @@ ghost use Rattle.css_drive.specs.CompanionStanding.{Knows};
 ghost use Rattle.css_span.specs.Frontiers.{Answers};
 
 use crate::event_lines::{dial_text, heard_text, landing_text, report_due, slept_text, turn_text};
-use crate::parting::Parting;
 use crate::plan::Plan;
 use crate::progress::{Begun, Progress};
 use crate::progress_steps::is_over;
 use css_agree::{Agree, AgreeFault};
 use css_client::Landing;
 use css_companion::{Companion, Report};
-use css_drive::{Observes, Session};
+use css_drive::{Observes, Parting, Session};
 use css_num::{Memory, Text};
 use css_outside::{Clocked, Failure, Kind, OutFault, Sink, write_all};
 use css_span::Answer;

@@ -17,7 +17,7 @@ use Rattle.css_model.specs.WallClock.{Answer, Local}
 use Rattle.css_model.specs.declared.Why.TheVariants as why
 use Rattle.css_span.specs.Frontiers.{Answers}
 use Rattle.css_watch.specs.Telling.{parting_at}
-use Rattle.css_watch.specs.declared.parting.Parting.TheVariants as parting
+use Rattle.css_drive.specs.declared.parting.Parting.TheVariants as parting
 use Rattle.css_watch_laws.specs.Promises.{DisagreementsAreFalse}
 
 -- ---- what answers declare

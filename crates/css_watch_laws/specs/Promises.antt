@@ -9,7 +9,7 @@ use Rattle.css_model.specs.History.{Clock, History, Took, accepted_answers}
 use Rattle.css_model.specs.World.{Errors, IsWorldFor, Reads, World}
 use Rattle.css_model.specs.declared.Why.TheVariants as why
 use Rattle.css_watch.specs.Telling.{parting_by, report_line, told_of}
-use Rattle.css_watch.specs.declared.parting.Parting.TheVariants as parting
+use Rattle.css_drive.specs.declared.parting.Parting.TheVariants as parting
 use Rattle.css_watch.specs.declared.plan.Plan.{Plan}
 use Rattle.css_watch.specs.declared.progress.Progress.{Progress}
 use Rattle.css_watch_lines.specs.Lines.{Known}

@@ -1,6 +1,5 @@
 use Rattle.std.proofs.Common.{refl, inr}
-use Rattle.css_app.proofs.Commands.{as_asked, as_due, driven_tells, no_write, unwritten, writes_tells}
-use Rattle.css_drive_relay.specs.Due.{IsProperRelay, due}
+use Rattle.css_app.proofs.Commands.{as_asked, driven_tells, relay_last, relay_writes, unwritten, writes_tells}
 use Rattle.css_app.proofs.program.run_command.Goals as goal
 
 -- ---- what is done is what the words ask for
@@ -33,15 +32,11 @@ returns-in-Ok-clause-does g c = rw c.in-Pair.is (record {
 pub returns-in-Relay-clause-does : goal.returns-in-Relay-clause-does
 returns-in-Relay-clause-does g c =
     let made = c.drive_relay.ensures in
-    let run = c.relay_run_of.result in
     let ended = c.drive_relay.result in
     rw (c.in-Relay.is, c.status_of.ensures.value)
     (record {
-      ran = inr (run, c.relay_run_of.ensures.asked, (ended, made.ran, refl));
-      complete = λ called.
-          as_asked run c.relay_run_of.ensures.asked
-          (as_due {proper = IsProperRelay run} {due_of = due run} made.ran.history ended made.ran.grew made.ran.proper
-          made.ran.ends (unwritten ended 0 made.counted.no_writes) made.counted.faults no_write called);
+      ran = inr (c.relay_run_of.result, c.relay_run_of.ensures.asked, (ended, made.ran, refl));
+      complete = relay_last ended made.counted.kind made.counted.faults;
     })
 
 pub returns-in-Watch-clause-does : goal.returns-in-Watch-clause-does
@@ -82,7 +77,7 @@ pub returns-in-Relay-clause-counted : goal.returns-in-Relay-clause-counted
 returns-in-Relay-clause-counted g c =
     let made = c.drive_relay.ensures.counted in
     rw c.status_of.ensures.value
-    (driven_tells c.drive_relay.result (unwritten c.drive_relay.result _ made.no_writes) made.faults made.dials)
+    (driven_tells c.drive_relay.result (unwritten c.drive_relay.result _ (relay_writes made.kind)) made.faults made.dials)
 
 pub returns-in-Watch-clause-counted : goal.returns-in-Watch-clause-counted
 returns-in-Watch-clause-counted g c = c.watch_television.ensures.counted _ _

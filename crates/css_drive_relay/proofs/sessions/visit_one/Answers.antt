@@ -47,4 +47,4 @@ returns-clause-goes g c plan left start h s =
     (λ x. (steps.all_without (Came h) c.args.peer _ x.0, All-tail (Came h) _ left x.1, x.2))
     (rw c.in-Ok-Text.field-0-is at c.in-Ok-Text.ensures.told)) in
     rw (c.in-Hear.is, c.forget-in-Ok-Text.ensures.relay)
-    (steps.made x (HungUp _) refl tt (λ y. y) _ c.hang_up.result c.hang_up.ensures.told)
+    (steps.made x (HungUp _) refl tt (λ y. y) _ _ c.hang_up.result c.hang_up.ensures.told)

@@ -26,7 +26,7 @@ returns-else-is_kept-clause-goes g c plan start h s =
     steps.made (steps.came c.args.live.now s c.in-Ok-Some.ensures.counted.faults c.in-Ok-Some.peer
     c.in-Ok-Some.kind (rw c.in-Ok-Some.field-0-is at c.in-Ok-Some.ensures.told) opens.0 opens.1 false
     (sym c.if-is_kept.false ∙ c.is_kept.ensures ∙ ap (is_kept _) (c.len.ensures ∙ c.args.live.now.peers.ok.0)))
-    (HungUp _) refl tt (λ x. (x.0, steps.all_next (Came (came ∷ h)) _ _ x.0, x.2)) _ c.hang_up.result
+    (HungUp _) refl tt (λ x. (x.0, steps.all_next (Came (came ∷ h)) _ _ x.0, x.2)) _ _ c.hang_up.result
     c.hang_up.ensures.told
 
 pub returns-in-Err-clause-goes : goal.returns-in-Err-clause-goes

@@ -1,7 +1,8 @@
 use Rattle.std.proofs.Common.{◌≤◌, ◌-◌, []}
-use Rattle.std.specs.Prelude.{IfSome}
+use Rattle.std.specs.Prelude.{◌≡◌, ◌⊎◌, IfSome, None}
 use Rattle.css_model.specs.History.{History}
 use Rattle.css_outside.specs.Limits.{most_turns}
+use Rattle.css_outside.specs.Outsides.{Counts}
 use Rattle.css_drive.specs.CompanionStanding.{Shown, shown}
 use Rattle.css_drive_relay.specs.Places.{Asked}
 use Rattle.css_drive_relay.specs.Standing.{stood, Stands, IsAt, HasTried}
@@ -15,8 +16,11 @@ invariant-turns g l = record {
       → IsAt (λ f. Asked []) l.plan start (shown (g.O.Outside.told l.outside) (g.O.Outside.counts l.outside)) l.live;
   floor : l.live.relay.companion.client.floor ≤ (g.O.Outside.counts l.outside).last;
   dials : (g.O.Outside.counts l.fn.outside).dial_faults ≤ (g.O.Outside.counts l.outside).dial_faults;
-  tried : HasTried (g.O.Outside.counts l.fn.outside) (g.O.Outside.counts l.outside) l.live;
+  tried : (before : Counts) → before.dial_faults ≤ (g.O.Outside.counts l.fn.outside).dial_faults
+      → HasTried l.plan before (g.O.Outside.counts l.fn.outside) l.fn.live.own
+      → HasTried l.plan before (g.O.Outside.counts l.outside) l.live.own;
   begun : IfSome l.live.own.first (λ _. 1 ≤ l.live.own.made);
+  whole : (l.live.parting ≡ None) ⊎ (1 ≤ l.live.own.made);
 }
 
 abbrev pub decreases-turns : goal.decreases-turns

@@ -1,9 +1,10 @@
-use Rattle.std.proofs.Common.{◌∙◌, sym, ap, ℕ, Some, Option}
+use Rattle.std.proofs.Common.{◌∙◌, sym, ap, ℕ, Some, Option, inl}
 use Rattle.std.specs.Prelude.{unwrap_or}
 use Rattle.css_outside.specs.declared.calls.Clocked.{Clocked}
 use Rattle.css_drive.specs.CompanionTurns.{is_late}
 use Rattle.css_drive.specs.declared.companion_live.Live.{Live as Own}
 use Rattle.css_drive.proofs.CompanionEnds.{risen_to}
+use Rattle.css_drive.proofs.CompanionSteps.{at_err}
 use Rattle.css_drive_relay.specs.Places.{Facts, with_turn}
 use Rattle.css_drive_relay.specs.Standing.{facts_in}
 use Rattle.css_drive_relay.proofs.Steps as steps
@@ -25,14 +26,19 @@ returns-clause-goes g c on start h s =
 
 -- No dial is made in the last turn by time. The first reading stays the first, so that turn isn't the first one.
 pub returns-then-is_late-clause-tried : goal.returns-then-is_late-clause-tried
-returns-then-is_late-clause-tried g c before le tried some none =
-    let limit = c.args.plan.now.limit in
+returns-then-is_late-clause-tried g c before le tried some reached none =
+    let limit = c.args.plan.now.run.limit in
     let live = c.args.live.now in
     let reading : ℕ = c.in_ok-reading.field-0.reading in
     let same = ap {A = Facts} (λ f. f.first) (steps.read_facts c.in_ok-reading.ensures.told) in
     let last = sym c.is_late.ensures ∙ c.if-is_late.true in
     risen_to _ _ _ c.read.ensures.keeps.dials
-    (tried (steps.was_second limit c.args.plan.now.limit_range live.own.first live.own.made reading c.requires.begun
+    (tried (steps.was_second limit c.args.plan.now.run.limit_range live.own.first live.own.made reading c.requires.begun
     (ap {A = Option ℕ} (λ o. is_late limit (Some (unwrap_or o reading)) (Some reading)) (sym same)
-    ∙ ap (λ own. is_late limit own.first own.turn) (sym c.begin.ensures) ∙ last))
+    ∙ ap (λ own. is_late limit own.first own.turn) (sym c.begin.ensures) ∙ last)) reached
     (c.read.ensures.keeps.dialled (ap {A = Own} (λ own. own.cii) (sym c.begin.ensures) ∙ none)))
+
+-- the reading failed
+pub returns-in_err-reading-clause-begun : goal.returns-in_err-reading-clause-begun
+returns-in_err-reading-clause-begun g c =
+    at_err _ _ _ _ c.from_residual.ensures.1 (inl c.in_err-reading.ensures.told.end)

@@ -1,6 +1,6 @@
 use Rattle.std.proofs.Common.{◌≡◌, ◌∙◌, ◌++◌, ap, sym, append_assoc, Some, string_bytes, codes, decimal}
 use Rattle.css_cii.specs.FaultWords as cii
-use Rattle.css_watch.specs.Visits as visits
+use Rattle.css_drive.specs.Visits as visits
 use Rattle.css_watch.proofs.visit.why.Goals as goal
 
 pub returns-in_ok-format-in-BadCii-clause-words : goal.returns-in_ok-format-in-BadCii-clause-words

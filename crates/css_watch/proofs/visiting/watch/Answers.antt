@@ -1,6 +1,6 @@
 use Rattle.std.proofs.Common.{arith, ◌≡◌, ◌≤◌}
 use Rattle.std.proofs.lemmas.Grind.{common_steps}
-use Rattle.css_watch.specs.Visits.{most_visits}
+use Rattle.css_drive.specs.Visits.{most_visits}
 use Rattle.css_watch.proofs.Visits as all
 use Rattle.css_watch.proofs.visiting.watch.Goals as goal
 

@@ -1,6 +1,6 @@
 use Rattle.std.proofs.Common.{◌-◌, ◌≤◌}
 use Rattle.css_watch.specs.Following.{SoFar, stage}
-use Rattle.css_watch.specs.Visits.{most_visits}
+use Rattle.css_drive.specs.Visits.{most_visits}
 use Rattle.css_watch.proofs.visiting.watch.Given as goal
 
 abbrev pub invariant-visits : goal.invariant-visits

@@ -1,6 +1,6 @@
 use Rattle.std.proofs.Common.{subst, refl, Some, None, Bool, cond}
 use Rattle.css_watch.specs.Watching.{Accepts}
-use Rattle.css_watch.specs.declared.parting.Parting.TheVariants as parting
+use Rattle.css_drive.specs.declared.parting.Parting.TheVariants as parting
 use Rattle.css_watch.proofs.Telling as telling
 use Rattle.css_watch.proofs.watching.accept.Goals as goal
 

@@ -99,6 +99,7 @@ returns-in_err-take_in-in-Text-clause-called g c =
     (inr (
       heard.Text c.in-Text.text,
       rw c.in-Text.is at c.in_ok-take_text.ensures.told,
+      refl,
       λ own h is k. c.in_err-take_in-in-Text.ensures.told own c.in-Some.peer h is k,
     )))
 
@@ -120,5 +121,6 @@ returns-in_err-let_go-in-Closed-clause-called g c =
     (inr (
       heard.Closed,
       rw c.in-Closed.is at c.in_ok-take_text.ensures.told,
+      c.close.ensures,
       λ own h is k. rw c.in_err-let_go-in-Closed.ensures.err tt,
     )))
