@@ -24,8 +24,8 @@ from live_edge import Beside, closed_port, companion, processor_times, stop
 from live_peer import TIMELINE
 from live_words import told_by
 from page_tv import SECOND
+from television import UNAVAILABLE, Set
 from watch_lines import Story, read
-from watch_tv import UNAVAILABLE, Set
 
 HERE = os.path.dirname(os.path.abspath(__file__))
 PORT = 10000 + os.getpid() % 200 * 100  # The hundred ports from here on are this run's.

@@ -6,15 +6,17 @@ The companion's clock shows true time. The television's clock runs 37 ppm fast, 
 its clock is set. `truth` tells where its content really is.
 """
 import json
+import pathlib
 import random
+import sys
 
-SECOND, TURN, F = 10**9, 10**7, 256_000_000
+sys.path.insert(0, str(pathlib.Path(__file__).resolve().parent.parent / "tools"))
+from television import ERROR, RATE, SECOND, Television, tick_at  # noqa: E402 (the folder comes first)
+
+TURN, F = 10**7, 256_000_000
 LOCAL_ERROR, LOCAL_PRECISION = 128_000, 1000
-ERROR, PRECISION_NS = 128_000, 954  # The precision is 2^-20 s.
+PRECISION_NS = 954  # It is 2^-20 s.
 BEGIN = 98_765_432_109_876_543  # The first reading: beyond 2^53, so that no page may read it as a number.
-RATE = {"unitsPerSecond": 90000, "unitsPerTick": 1}
-SELECTOR = "urn:dvb:css:timeline:pts"
-TV = "192.168.1.20"
 
 EVENING = [(8, "pause"), (11, "resume"), (14, "channel"), (18, "off"), (28, "on"), (30, "tell"), (33, "garble"),
            (34.5, "mend"), (36, "stray"), (38, "impossible"), (40, "set clock"), (43.5, "sleep")]
@@ -33,43 +35,6 @@ def carried(wall, error, past):
     low = (F - error) * (past - 2 * LOCAL_PRECISION - 1) // (F + LOCAL_ERROR)
     high = -((F + error) * -(past + 2 * LOCAL_PRECISION + 1) // (F - LOCAL_ERROR))
     return wall[0] - 1 + low, wall[1] + 1 + high
-
-
-def tick_at(wall, control, rate):
-    """The tick that a control timestamp assigns to a wall clock time."""
-    rise = (wall - int(control["wallClockTime"])) * control["timelineSpeedMultiplier"] * rate["unitsPerSecond"]
-    return int(control["contentTime"]) + rise // (rate["unitsPerTick"] * SECOND)
-
-
-class Television:
-    """What is shown, and the texts that are told of it."""
-
-    def __init__(self):
-        self.begins = [(0, 1_764_403_200 * SECOND)]  # From when on the clock counts from where.
-        self.on, self.told = True, True
-        self.channel, self.control = 1, None
-        self.show(0, 900_000, 1)
-
-    def wall(self, time):
-        begin = max(begin for begin in self.begins if begin[0] <= time)[1]
-        return begin + time + time * 37 // 10**6
-
-    def set_clock(self, time, by):
-        self.begins.append((time, self.begins[-1][1] + by))
-
-    def show(self, time, tick, speed):
-        self.control = {"contentTime": str(tick), "timelineSpeedMultiplier": speed,
-                        "wallClockTime": str(self.wall(time))}
-
-    def tick(self, time):
-        return tick_at(self.wall(time), self.control, RATE)
-
-    def state(self):
-        timelines = [{"timelineProperties": RATE, "timelineSelector": SELECTOR}]
-        return {"contentId": f"dvb://233a.1004.{1043 + self.channel}", "contentIdStatus": "final", "mrsUrl": None,
-                "presentationStatus": "okay", "protocolVersion": "1.1", "teUrl": None, "timelines": timelines,
-                "tsUrl": f"ws://{TV}:6678/ts" if self.told else None,
-                "wcUrl": f"udp://{TV}:6677" if self.told else None}
 
 
 class Evening:

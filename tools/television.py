@@ -1,5 +1,5 @@
-"""A television on real sockets that does what televisions do on an evening, and whose truth is known: what its clock
-shows at each reading of this machine's, and what it said when. tests/live_watch.py is made of it."""
+"""A television whose truth is known: what its clock shows at each reading, and what it said when. A `Set` is one on real
+sockets that does what televisions do on an evening. tools/wrong_tv.py and tests/live_watch.py are made of it."""
 import json
 import random
 import socket
@@ -7,14 +7,52 @@ import struct
 import threading
 import time
 
-from live_edge import FAULTS, Listener, end_of, greet, state
-from live_peer import CLOSE, frame, nanos, stamp
-from page_tv import ERROR, SECOND, Television
+from peer import CLOSE, FAULTS, TIMELINE, Listener, end_of, frame, greet, nanos, stamp, state
 
-HOST = "127.0.0.1"
+SECOND = 10**9
+ERROR = 128_000
+RATE = {"unitsPerSecond": 90000, "unitsPerTick": 1}
+HOST, TV = "127.0.0.1", "192.168.1.20"
 PRECISION_BYTE = 0xEC  # 2^-20 s
 LONG = 1000
 UNAVAILABLE = {"contentTime": None, "timelineSpeedMultiplier": None, "wallClockTime": "0"}
+
+
+def tick_at(wall, control, rate):
+    """The tick that a control timestamp assigns to a wall clock time."""
+    rise = (wall - int(control["wallClockTime"])) * control["timelineSpeedMultiplier"] * rate["unitsPerSecond"]
+    return int(control["contentTime"]) + rise // (rate["unitsPerTick"] * SECOND)
+
+
+class Television:
+    """What is shown, and the texts that are told of it."""
+
+    def __init__(self):
+        self.begins = [(0, 1_764_403_200 * SECOND)]  # From when on the clock counts from where.
+        self.on, self.told = True, True
+        self.channel, self.control = 1, None
+        self.show(0, 900_000, 1)
+
+    def wall(self, time):
+        begin = max(begin for begin in self.begins if begin[0] <= time)[1]
+        return begin + time + time * 37 // 10**6
+
+    def set_clock(self, time, by):
+        self.begins.append((time, self.begins[-1][1] + by))
+
+    def show(self, time, tick, speed):
+        self.control = {"contentTime": str(tick), "timelineSpeedMultiplier": speed,
+                        "wallClockTime": str(self.wall(time))}
+
+    def tick(self, time):
+        return tick_at(self.wall(time), self.control, RATE)
+
+    def state(self):
+        timelines = [{"timelineProperties": RATE, "timelineSelector": TIMELINE}]
+        return {"contentId": f"dvb://233a.1004.{1043 + self.channel}", "contentIdStatus": "final", "mrsUrl": None,
+                "presentationStatus": "okay", "protocolVersion": "1.1", "teUrl": None, "timelines": timelines,
+                "tsUrl": f"ws://{TV}:6678/ts" if self.told else None,
+                "wcUrl": f"udp://{TV}:6677" if self.told else None}
 
 
 class WallClock:
