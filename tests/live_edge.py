@@ -2,17 +2,24 @@
 import os, select, socket, struct, threading, time
 
 from live_peer import CLOSE, PING, dial, start
-from peer import UPGRADED, Listener, end_of, greet, state, upgraded  # noqa: F401 (the others have them from here)
+from peer import PATIENCE, UPGRADED, Listener, end_of, greet, state, upgraded  # noqa: F401 (the others have them from here)
 
 
 class Recorder:
-    """Keeps checks, to be told later."""
+    """Keeps checks, and what was skipped, to be told later."""
 
     def __init__(self):
         self.kept = []
 
-    def __call__(self, name, holds, told=""):
-        self.kept.append((name, holds, told))
+    def __call__(self, *told):
+        self.kept.append((False, told))
+
+    def skip(self, *told):
+        self.kept.append((True, told))
+
+    def tell(self, check):
+        for is_skipped, told in self.kept:
+            (check.skip if is_skipped else check)(*told)
 
 
 class Beside:
@@ -36,8 +43,7 @@ class Beside:
         """Waits for all of them, and tells their checks in order."""
         for thread, recorder in zip(self.threads, self.recorders):
             thread.join()
-            for kept in recorder.kept:
-                check(*kept)
+            recorder.tell(check)
 
 
 # ---- servers
@@ -136,7 +142,7 @@ def pauses_of(child, begun, works=False):
     return took - waited - (0 if works else used)
 
 
-def wait_for(holds, seconds=20):
+def wait_for(holds, seconds=PATIENCE):
     """Waits until something holds, and tells whether it does."""
     end = time.monotonic() + seconds
     while not holds() and time.monotonic() < end:
@@ -150,7 +156,7 @@ def reset(conn):
     conn.close()
 
 
-def dial_soon(port, path, room=None, host="127.0.0.1", seconds=20):
+def dial_soon(port, path, room=None, host="127.0.0.1", seconds=PATIENCE):
     """A session with a television that may not listen yet."""
     end = time.monotonic() + seconds
     while True:

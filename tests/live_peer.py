@@ -3,7 +3,7 @@ tests/live.py and bench/live.py are made of it."""
 import atexit, base64, os, pathlib, socket, subprocess, sys, time
 
 sys.path.insert(0, str(pathlib.Path(__file__).resolve().parent.parent / "tools"))
-from peer import CLOSE, PING, PONG, TEXT, TIMELINE, Peer, accept_key, frame, nanos, stamp  # noqa: E402, F401
+from peer import CLOSE, PATIENCE, PING, PONG, TEXT, TIMELINE, Peer, accept_key, frame, nanos, stamp  # noqa: E402, F401
 
 SETUP = {"contentIdStem": "dvb://", "timelineSelector": TIMELINE}
 
@@ -14,7 +14,7 @@ def connection(port, room=None, host="127.0.0.1"):
     if room is not None:
         conn.setsockopt(socket.SOL_SOCKET, socket.SO_RCVBUF, room)
         conn.setsockopt(socket.IPPROTO_TCP, socket.TCP_MAXSEG, 536)  # The other end keeps less, too.
-    conn.settimeout(5)
+    conn.settimeout(PATIENCE)
     conn.connect((host, port))
     conn.setsockopt(socket.IPPROTO_TCP, socket.TCP_NODELAY, 1)
     return conn

@@ -12,12 +12,20 @@ import time
 
 TEXT, CLOSE, PING, PONG = 1, 8, 9, 10
 TIMELINE = "urn:dvb:css:timeline:pts"
+PATIENCE = 30  # Only what hangs takes so many seconds, also on a busy machine.
 UPGRADED = ("Upgrade: websocket", "Connection: Upgrade")
 FAULTS = (EOFError, OSError, ValueError, IndexError)
 
 
 def accept_key(key):
     return base64.b64encode(hashlib.sha1(key + b"258EAFA5-E914-47DA-95CA-C5AB0DC85B11").digest())
+
+
+def masked_by(mask, payload):
+    """A payload with its mask put on, or taken off."""
+    length = len(payload)
+    whole = int.from_bytes((mask * (length // 4 + 1))[:length], "big") ^ int.from_bytes(payload, "big")
+    return whole.to_bytes(length, "big")
 
 
 def frame(opcode, payload, fin=True, masked=True):
@@ -34,8 +42,7 @@ def frame(opcode, payload, fin=True, masked=True):
     if not masked:
         return head + payload
     mask = os.urandom(4)
-    whole = int.from_bytes((mask * (length // 4 + 1))[:length], "big") ^ int.from_bytes(payload, "big")
-    return head + mask + whole.to_bytes(length, "big")
+    return head + mask + masked_by(mask, payload)
 
 
 class Peer:
@@ -56,7 +63,7 @@ class Peer:
         taken, self.bytes = self.bytes[:count], self.bytes[count:]
         return taken
 
-    def head(self, seconds=3):
+    def head(self, seconds=PATIENCE):
         """An HTTP head."""
         head = b""
         while not head.endswith(b"\r\n\r\n"):
@@ -67,7 +74,7 @@ class Peer:
         data = payload if isinstance(payload, bytes) else json.dumps(payload).encode()
         self.conn.sendall(frame(opcode, data, fin, self.masked))
 
-    def hear(self, seconds=3):
+    def hear(self, seconds=PATIENCE):
         """The next frame: its opcode and its payload. A client's frames are masked, a server's aren't."""
         first, second = self.take(2, seconds)
         length = second & 0x7F
@@ -77,11 +84,12 @@ class Peer:
             length = struct.unpack(">Q", self.take(8, seconds))[0]
         if bool(second & 0x80) == self.masked or not first & 0x80:
             raise ValueError("a frame is masked where it must not be, or isn't where it must, or is a fragment")
-        mask = self.take(4, seconds) if second & 0x80 else b"\0\0\0\0"
-        payload = self.take(length, seconds)
-        return first & 15, bytes(byte ^ mask[at % 4] for at, byte in enumerate(payload))
+        if not second & 0x80:
+            return first & 15, self.take(length, seconds)
+        mask = self.take(4, seconds)
+        return first & 15, masked_by(mask, self.take(length, seconds))
 
-    def text(self, seconds=3):
+    def text(self, seconds=PATIENCE):
         """The next text as a value; what else comes is passed over."""
         while True:
             opcode, payload = self.hear(seconds)
@@ -105,7 +113,7 @@ class Peer:
         except (EOFError, OSError):
             return {}
 
-    def ending(self, seconds=3):
+    def ending(self, seconds=PATIENCE):
         """How the session ends: the code of the close frame, None where the connection ends without one."""
         try:
             while True:
@@ -117,7 +125,7 @@ class Peer:
         except TimeoutError:
             return "nothing"
 
-    def has_ended(self, seconds=3):
+    def has_ended(self, seconds=PATIENCE):
         """Whether the connection ends; what comes before is passed over."""
         try:
             while True:
@@ -194,7 +202,7 @@ def state(clock=None, timestamps=None):
                            "timelineProperties": {"unitsPerTick": 1, "unitsPerSecond": 90000}}]}
 
 
-def end_of(peer, seconds=3, over=None):
+def end_of(peer, seconds=PATIENCE, over=None):
     """How a connection ends: the codes of the close frames on it and how many texts came before, and whether it was
     ended in order, by a reset, or not at all. A close is answered; `over` is set before."""
     codes, texts = [], 0
