@@ -17,7 +17,7 @@ def run(program, words, given=b""):
 
 def finished(child, given=None):
     """What a run writes to both streams; it is ended where it takes too long."""
-    timer = threading.Timer(30, child.kill)
+    timer = threading.Timer(60, child.kill)
     timer.start()
     told = child.communicate(given)
     timer.cancel()
@@ -65,7 +65,7 @@ def slow_output(check, program):
     child = subprocess.Popen(program + words, stdin=subprocess.DEVNULL, stdout=unblocking(sink),
                              stderr=subprocess.PIPE)
     os.close(sink)
-    timer, written = threading.Timer(30, child.kill), b""
+    timer, written = threading.Timer(60, child.kill), b""
     timer.start()
     time.sleep(0.5)
     while more := os.read(source, 4096):
@@ -109,7 +109,7 @@ def descriptors(check, program, port, most):
     child = start(limited, ["companion", "--cii", f"ws://127.0.0.1:{port}/cii", "--reports", "2", "--report-every",
                             "300000000", "--ask-every", "50000000", "--turns", "2000"])
     lines, errors = child.stdout.read().decode().splitlines(), child.stderr.read().decode().strip()
-    status, last = child.wait(30), lines[-1:] or [""]
+    status, last = child.wait(60), lines[-1:] or [""]
     made = status == 0 and " ticks " in last[0]
     check(f"a companion with {most} descriptors makes its reports, or tells that it can't",
           made or (status != 0 and errors.startswith("css: ")), (status, last[0], errors))
@@ -120,7 +120,7 @@ def system(port, program, check):
     file, words = running(program, port)
     first = ("/no/such/css", "/bin/true", "css")
     if len(words) > 1:
-        print("skipped first words: a loader runs the program", flush=True)
+        check.skip("first words that are no path of the program", "a loader runs the program")
         first = ()
     Beside([
         (quiet_input, program),

@@ -1,7 +1,7 @@
 """Each status that the program can end with: its status line, which stays as it is, and the hint that may follow."""
-import os, re, subprocess, time
+import os, re, subprocess
 
-from live_edge import Clock, Listener, closed_port, greet, hold, state, teller
+from live_edge import Clock, Listener, closed_port, dial_soon, greet, hold, state, stop, teller
 from live_peer import start
 
 HINT = "css: hint: "
@@ -140,8 +140,8 @@ def offline(check, program):
 
 def sockets(check, program, port):
     """What the system says of sockets."""
-    first = start(program, ["tv", "--port", str(port), "--seconds", "6"])
-    time.sleep(1.5)
+    first = start(program, ["tv", "--port", str(port), "--seconds", "120"])
+    dial_soon(port, "/cii").conn.close()
     for name, host, hint in (
             ("a port in use", "127.0.0.1", f"port {port} "), ("a foreign host", "192.0.2.1", "machine"),
             ("an unknown host", "no-such-name.invalid", "host"), ("any host", "0.0.0.0", "--host")):
@@ -151,7 +151,7 @@ def sockets(check, program, port):
     got, lines, _ = told_by(start(program, ["pair", "--port", str(port), "--reports", "1", "--seconds", "2"]))
     check("a child that can't listen", got == 11 and lines[0] == "css: net fault"
           and lines[-1] == "css: child status 6", (got, lines))
-    first.wait(20)
+    stop(first)
 
 
 def companions(check, program, port):
@@ -182,8 +182,8 @@ def companions(check, program, port):
 
     clock = Clock()
     silent = Listener(lambda peer: (greet(peer), hold(peer)))
-    television = start(program, ["tv", "--port", str(port), "--seconds", "30"])
-    time.sleep(1)
+    television = start(program, ["tv", "--port", str(port), "--seconds", "120"])
+    dial_soon(port, "/cii").conn.close()
     spent("no text", lambda peer: (greet(peer), hold(peer)), "the television told no wcUrl")
     spent("no wcUrl", teller(state()), "the television told no wcUrl")
     spent("no response", teller(state(clock.port)), "no response came to [1-9][0-9]* requests")
@@ -224,7 +224,7 @@ def logged(check, program, port):
     for asked in ("1", ""):
         child = subprocess.Popen([*program, "tv", "--port", str(port), "--seconds", "1"], stdin=subprocess.DEVNULL,
                                  stdout=subprocess.PIPE, stderr=subprocess.PIPE, env={**os.environ, "CSS_LOG": asked})
-        _, told = child.communicate(timeout=20)
+        _, told = child.communicate(timeout=60)
         lines = told.decode().splitlines()
         told = any(it.startswith("css: log: ") for it in lines)
         check(f"CSS_LOG={asked}: what the sockets do", bool(asked) == told, lines)
