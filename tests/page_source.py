@@ -81,7 +81,7 @@ class Program:
 class Wrong:
     """`watch` of a program beside tools/wrong_tv.py, which is wrong so often, once in so many seconds."""
 
-    TOOL, EVERY, WAYS = pathlib.Path(__file__).resolve().parent.parent / "tools" / "wrong_tv.py", 2, 6
+    TOOL, EVERY, WAYS = pathlib.Path(__file__).resolve().parent.parent / "tools" / "wrong_tv.py", 3, 6
 
     def __init__(self, words, port):
         self.words, self.port = words, port

@@ -17,9 +17,9 @@ def many(check, browser, port):
     begun = time.monotonic()
     page.feed(*made)
     page.close()
-    shown = browser.until(f"kept.lines === {len(lines)} && link.ended", 60)
+    shown = browser.until(f"kept.lines === {len(lines)} && link.ended")
     check(f"{len(lines):,} lines are shown", shown and len(lines) > 10000, f"{time.monotonic() - begun:.1f} s")
-    time.sleep(1.3)
+    browser.settled()
     check("with the position of the last one", right_position(browser.seen(), lines))
     size = browser.tell("document.querySelectorAll('*').length")
     check("and the page stays small", size < 2500, f"{size} elements")
@@ -34,7 +34,7 @@ def long_ago(check, browser, port):
     page.feed(*made, *[report] * 21000)
     browser.open(page.url)
     browser.until("watch.report")
-    time.sleep(1)
+    browser.settled()
     seen, lines = browser.seen(), [json.loads(line) for line in made]
     check("a page that is opened later has a position", right_position({**seen, "lines": len(lines)}, lines)
           and bool(seen["now"]), f"{seen['lines']} lines")
@@ -57,7 +57,7 @@ def cut(check, browser, port):
     check("the page connects again, and begins anew", browser.until(f"link.open && kept.lines === {len(made[:9])}"))
     page.feed(made[9][:40], *made)
     browser.until(f"kept.lines === {len(made) + 10}")
-    time.sleep(1)
+    browser.settled()
     lines = [json.loads(line) for line in made]
     seen = browser.seen()
     check("a watch that begins anew has a position", right_position({**seen, "lines": len(lines)}, lines)
@@ -84,7 +84,7 @@ def odd(check, browser, port):
     browser.open(page.url)
     page.feed("no JSON", *map(json.dumps, lines))
     browser.until(f"kept.lines === {len(lines) + 1}")
-    time.sleep(1)
+    browser.settled()
     seen = browser.seen()
     right = right_position({**seen, "lines": len(lines)}, lines)
     check("a position below zero runs backwards", right and "−" in browser.text("position"),
@@ -103,7 +103,7 @@ def odd(check, browser, port):
              {"event": "end", "number": 2, "why": "bad tsUrl"}]
     page.feed(*map(json.dumps, after))
     browser.until(f"kept.lines === {len(lines) + 2 + len(after)}")
-    time.sleep(1)
+    browser.settled()
     told = [row[1:] for row in browser.rows("refused")]
     wanted = ["tsUrl", "CII text 2", *["line of the watch"] * 4, "CSS-TS text", "line of the watch"]
     check("all that is odd is told", [row[0] for row in told] == wanted, told)

@@ -6,7 +6,7 @@ import re
 
 from page_tv import ERROR, F, LOCAL_ERROR, LOCAL_PRECISION, PRECISION_NS, RATE, carried, span, tick_at
 
-LAG = 500_000_000  # Within this time a control timestamp that was said has come.
+LAG = 5_000_000_000  # Within this time a control timestamp that was said has come, also on a busy machine.
 SERVICES = ("CII", "WC", "TS")
 STATE = ("contentId", "contentIdStatus", "mrsUrl", "presentationStatus", "protocolVersion", "teUrl", "timelines",
          "tsUrl", "wcUrl")
