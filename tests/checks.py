@@ -2,14 +2,24 @@
 import os
 import pathlib
 import socket
+import subprocess
 
 TOP = pathlib.Path(__file__).resolve().parent.parent
 HELD = []
 
 
 def program(words):
-    """The words of the program before its command: these, or $CSS, or ./css."""
+    """The words of the program before its command: these, or $CSS, or ./css, which builds it."""
     return words or [os.environ.get("CSS") or str(TOP / "css")]
+
+
+def css(named=None):
+    """The path of the program: this one, or $CSS; or else the proved one, which `./css` builds where it is missing or
+    older than its sources."""
+    named = named or os.environ.get("CSS")
+    if not named:
+        subprocess.run([TOP / "css", "replay"], input=b"css-schedule 1 plain 0 -30 0 0 x -\n", check=True)
+    return named or str(TOP / "crates" / "css" / "out" / "proved" / "css")
 
 
 def ports():

@@ -1,7 +1,7 @@
 #!/usr/bin/env python3
 """Refuses each allocation of a replay in turn, one number a run, until a run meets no refusal.
 
-    bench/refusals.py [SCHEDULE]         examples/evening.schedule, where none is given; by the program that ./css
+    tests/refusals.py [SCHEDULE]         examples/evening.schedule, where none is given; by the program that ./css
                                          builds, or by $CSS
 
 Each run with a refusal must end with the status of want of memory, its line on standard error, and a front part of the
@@ -13,7 +13,7 @@ import subprocess
 import sys
 import tempfile
 
-from programs import HERE, css
+from checks import TOP, css
 
 LIBRARY = r"""
 #define _GNU_SOURCE
@@ -78,7 +78,7 @@ def run(program, library, schedule, number):
     def tell_at_3():
         os.dup2(writes, 3)
 
-    ran = subprocess.run([program, "replay"], input=schedule, capture_output=True, env=environment, timeout=60,
+    ran = subprocess.run([program, "replay"], input=schedule, capture_output=True, env=environment, timeout=120,
                          preexec_fn=tell_at_3, pass_fds=(3, writes))
     os.close(writes)
     with os.fdopen(reads, "rb") as told:
@@ -87,7 +87,7 @@ def run(program, library, schedule, number):
 
 
 def main():
-    path = sys.argv[1] if len(sys.argv) > 1 else os.path.join(HERE, "examples", "evening.schedule")
+    path = sys.argv[1] if len(sys.argv) > 1 else os.path.join(TOP, "examples", "evening.schedule")
     with open(path, "rb") as told:
         schedule = told.read()
     program = css()
