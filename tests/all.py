@@ -18,6 +18,7 @@ import sys
 import time
 
 sys.dont_write_bytecode = True
+import own_network
 from checks import TOP
 
 sys.path.insert(0, str(TOP / "tools"))
@@ -27,6 +28,8 @@ PROGRAM = TOP / "crates" / "css" / "out" / "css"
 DOCS = (["docs/check.py"], ["docs/claims.py"], ["docs/sizes.py"], ["docs/trusted.py", "--check"])
 # What a script is told besides.
 WORDS = {"tests/library.py": ["--over-gate"]}
+# The sessions of the pages have ports that somebody else may have.
+IN_OWN_NETWORK = {"docs/check.py"}
 NOT_RUN = {"bench/drives.py": "its program is proved by itself, which takes more time than there is"}
 LIMIT = 660  # Only what hangs takes so many seconds.
 RUNNING = set()
@@ -51,9 +54,11 @@ def program():
 
 def run(words):
     """How a check ends: its status, None where it took too long; what it wrote; and its seconds."""
-    begun = time.monotonic()
+    begun, command = time.monotonic(), [sys.executable, *words]
+    if words[0] in IN_OWN_NETWORK and not own_network.why_not():
+        command = own_network.alone(command)
     how = {"stdin": subprocess.DEVNULL, "stdout": subprocess.PIPE, "stderr": subprocess.STDOUT}
-    child = subprocess.Popen([sys.executable, *words], cwd=TOP, start_new_session=True, **how)
+    child = subprocess.Popen(command, cwd=TOP, start_new_session=True, **how)
     RUNNING.add(child)
     try:
         said, status = child.communicate(timeout=LIMIT)[0], child.returncode
