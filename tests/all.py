@@ -70,14 +70,17 @@ def run(words):
 
 
 def tell(words, status, said, seconds):
-    """Tells how a check ended. How many things it skipped."""
-    print(f"{'FAILED ' if status else 'ok     '} {words[0]}, {seconds:.0f} s", flush=True)
+    """Tells how a check ended: whether it made any, and how many things it skipped."""
+    lines = said.splitlines()
+    skipped = [line for line in lines if line.startswith("skipped ")]
+    is_made = status or len(skipped) < len([line for line in lines if not line.startswith("0 checks")])
+    print(f"{'FAILED ' if status else 'ok     ' if is_made or not lines else 'skipped'} {words[0]}, {seconds:.0f} s")
     if status:
-        print(said, flush=True)
-    skipped = [line for line in said.splitlines() if line.startswith("skipped ")]
+        print(said)
     for line in skipped:
-        print(f"        {line}", flush=True)
-    return len(skipped)
+        print(f"        {line}")
+    sys.stdout.flush()
+    return bool(is_made or not lines), len(skipped)
 
 
 def main(names):
@@ -96,8 +99,9 @@ def main(names):
                 status, said, seconds = end.result()
                 if status is None:
                     status, said = 1, f"{said}\ntests/all.py: not done after {LIMIT} s"
-                skipped += tell(ends[end], status, said, seconds)
-                passed += not status
+                is_made, more = tell(ends[end], status, said, seconds)
+                skipped += more
+                passed += is_made and not status
                 failed += [ends[end][0]] if status else []
         finally:
             for child in list(RUNNING):

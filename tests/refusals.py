@@ -9,12 +9,14 @@ output. A small library in front of the C library's allocator does the refusing;
 """
 
 import os
+import shutil
 import subprocess
 import sys
 import tempfile
 
 from checks import TOP, css
 
+COMPILER = os.environ.get("CC", "cc")
 LIBRARY = r"""
 #define _GNU_SOURCE
 #include <dlfcn.h>
@@ -66,7 +68,7 @@ def build(folder):
     source, library = os.path.join(folder, "refuse.c"), os.path.join(folder, "refuse.so")
     with open(source, "w", encoding="ascii") as out:
         out.write(LIBRARY)
-    subprocess.run([os.environ.get("CC", "cc"), "-shared", "-fPIC", "-O1", source, "-o", library, "-ldl"], check=True)
+    subprocess.run([COMPILER, "-shared", "-fPIC", "-O1", source, "-o", library, "-ldl"], check=True)
     return library
 
 
@@ -90,6 +92,9 @@ def main():
     path = sys.argv[1] if len(sys.argv) > 1 else os.path.join(TOP, "examples", "evening.schedule")
     with open(path, "rb") as told:
         schedule = told.read()
+    if not shutil.which(COMPILER):
+        print(f"skipped the refusal of allocations: there is no {COMPILER}")
+        return
     program = css()
     with tempfile.TemporaryDirectory() as folder:
         library = build(folder)
