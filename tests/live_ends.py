@@ -36,7 +36,8 @@ class Television:
     """A server of both sessions that tells these texts after its state, and notes how each session ends."""
 
     def __init__(self, texts, has_ts=True):
-        self.ends, self.clock = {}, Clock()
+        self.ends, self.clock, self.has_ts = {}, Clock(), has_ts
+        self.opened = threading.Event()
         self.timestamps = Listener(self.ts)
         self.texts = [state(self.clock.port, self.timestamps.port if has_ts else None), *texts]
         self.server = Listener(self.cii)
@@ -44,6 +45,8 @@ class Television:
     def cii(self, peer):
         greet(peer)
         peer.say(self.texts[0])
+        if self.has_ts:
+            self.opened.wait(PATIENCE)
         for text in self.texts[1:]:
             time.sleep(0.3)
             peer.say(text)
@@ -52,6 +55,7 @@ class Television:
     def ts(self, peer):
         greet(peer)
         peer.say(CONTROL)
+        self.opened.set()
         self.ends["ts"] = pings_until_close(peer)
 
     def end_of(self, kind):
@@ -63,11 +67,11 @@ class Television:
             one.end()
 
 
-def of_companion(check, program, name, texts, wanted, words=(), output=None, kinds=("cii", "ts")):
+def of_companion(check, program, name, texts, wanted, every=500_000_000, words=(), output=None, kinds=("cii", "ts")):
     """How a companion's run ends against such a television."""
     server = Television(texts, "ts" in kinds)
     program = program if output is None else ["sh", "-c", f'exec "$@" >{output}', "sh", *program]
-    child = companion(program, server.server.port, "--turns", "3000", "--report-every", "200000000", *words)
+    child = companion(program, server.server.port, "--turns", "3000", "--report-every", str(every), *words)
     status = child.wait(60)
     told = child.stderr.read().decode().strip()
     stop(child)
@@ -77,7 +81,7 @@ def of_companion(check, program, name, texts, wanted, words=(), output=None, kin
     server.end()
 
 
-def of_television(check, program, port, name, script, wanted, turns="250"):
+def of_television(check, program, port, name, script, wanted, turns="700"):
     """How a television's run ends for two peers."""
     child = start(program, ["tv", "--port", str(port), "--turns", turns], script)
     ends, peers = {}, [("cii", dial_soon(port, "/cii")), ("ts", dial_soon(port + 1, "/ts"))]
@@ -98,7 +102,7 @@ def of_television(check, program, port, name, script, wanted, turns="250"):
 def of_relay(check, program, port):
     """How a relay's run ends for its television, and for a peer of its own."""
     server, ends = Television([], False), {}
-    child = companion(program, server.server.port, "--port", str(port), "--turns", "250", command="relay")
+    child = companion(program, server.server.port, "--port", str(port), "--turns", "700", command="relay")
     ends["its peer"] = pings_until_close(dial_soon(port, "/cii"))
     ends["its television"] = server.end_of("cii")
     check("a relay that made its turns has its status", child.wait(PATIENCE) == 0, child.stderr.read().decode().strip())
@@ -129,7 +133,7 @@ def texts_at_the_end(check, program, port):
 
 def held(check, program, port):
     """Peers that don't answer the close hold the end of a run for a second at most, and not for good."""
-    child = start(program, ["tv", "--port", str(port), "--turns", "250"], SCRIPT)
+    child = start(program, ["tv", "--port", str(port), "--turns", "700"], SCRIPT)
     peers = [dial_soon(port, "/cii"), dial_soon(port + 1, "/ts")]
     peers[0].ending()
     begun, before = time.monotonic(), processor_times(child.pid)[1]
@@ -145,11 +149,11 @@ def ends(port, program, check):
     moved = {**state(), "wcUrl": "udp://127.0.0.1:9"}
     refused = f"{SCRIPT}{time.monotonic_ns() + 4_000_000_000} speed 65\n"
     Beside([
-        (of_companion, program, "that made its reports", [], 0, ("--reports", "5")),
+        (of_companion, program, "that made its reports", [], 0, 500_000_000, ("--reports", "5")),
         (of_companion, program, "that is told no object", [b"[]"], 7),
         (of_companion, program, "whose television moves", [moved], 8),
-        (of_companion, program, "that is told a bad address", [{"tsUrl": "nowhere"}], 13, (), None, ("cii",)),
-        (of_companion, program, "that can't write its reports", [], 5, (), "/dev/full"),
+        (of_companion, program, "that is told a bad address", [{"tsUrl": "nowhere"}], 13, 500_000_000, (), None, ("cii",)),
+        (of_companion, program, "that can't write its reports", [], 5, 3_000_000_000, (), "/dev/full"),
         (of_television, program, port, "that made its turns", SCRIPT, 0),
         (of_television, program, port + 2, "whose script is refused", refused, 2, "2000"),
         (of_relay, program, port + 4),

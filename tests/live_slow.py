@@ -11,7 +11,7 @@ from live_edge import PATIENCE, dial_soon, long_programme, stop
 from live_peer import Peer, start
 from own_network import alone, why_not
 
-TEXTS, EACH, PORT = 44, 0.4, 6677
+TEXTS, EACH, PORT = 44, 0.8, 6677
 KEPT = "/proc/sys/net/ipv4/tcp_wmem"
 
 
