@@ -43,7 +43,8 @@ def scripts():
 
 
 def program():
-    """The program that is tried: $CSS, or what `rt ci` left, where it is as new as its sources; else why there is none."""
+    """The program that is tried: $CSS, or what `rt ci` left, where it is as new as its sources. Else why there is
+    none."""
     if os.environ.get("CSS"):
         return os.path.abspath(os.environ["CSS"]), ""
     place = PROGRAM.relative_to(TOP)

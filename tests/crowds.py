@@ -13,7 +13,7 @@ import random
 import sys
 
 from checks import css
-from second import CII, F, PTS, SECOND, TS, Absent, Broken, Clock, Companion, Refused, Television, precision_ns, run
+from second import CII, F, PTS, TS, Absent, Broken, Clock, Companion, Refused, Television, precision_ns, run
 
 KINDS = {"cii": CII, "ts": TS}
 

@@ -2,7 +2,7 @@
 import os, select, socket, struct, threading, time
 
 from live_peer import CLOSE, PING, dial, start
-from peer import PATIENCE, UPGRADED, Listener, end_of, greet, state, upgraded  # noqa: F401 (the others have them from here)
+from peer import PATIENCE, UPGRADED, Listener, end_of, greet, state, upgraded  # noqa: F401 (for the others)
 
 
 class Recorder:

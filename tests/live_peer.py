@@ -1,5 +1,5 @@
-"""A plain peer of `css` on real sockets: sessions that it dials, requests of the wall clock, and the start of the program.
-tests/live.py and bench/live.py are made of it."""
+"""A plain peer of `css` on real sockets: sessions that it dials, requests of the wall clock, and the start of the
+program. tests/live.py and bench/live.py are made of it."""
 import atexit, base64, os, pathlib, socket, subprocess, sys, time
 
 sys.path.insert(0, str(pathlib.Path(__file__).resolve().parent.parent / "tools"))

@@ -80,8 +80,8 @@ def refusing(peer):
 
 
 def answers(check, program, port):
-    """A television has requests waiting all the time: each uses one turn. If an answer used another one, 600 turns would
-    answer 300. While this program waits for a processor a turn may find none, so a third is let pass."""
+    """A television has requests waiting all the time: each uses one turn. If an answer used another one, 600 turns
+    would answer 300. While this program waits for a processor a turn may find none, so a third is let pass."""
     child = start(program, ["tv", "--port", str(port), "--turns", "600"])
     udp = socket.socket(socket.AF_INET, socket.SOCK_DGRAM)
     udp.connect(("127.0.0.1", port))

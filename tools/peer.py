@@ -1,5 +1,5 @@
-"""WebSocket by hand, on real sockets: one end of a session, frames, handshakes, and a server that takes connections; and
-the times of CSS-WC as bytes. tools/wrong_tv.py and the scripts in tests/ are made of it."""
+"""WebSocket by hand, on real sockets: one end of a session, frames, handshakes, and a server that takes connections.
+And the times of CSS-WC as bytes. tools/wrong_tv.py and the scripts in tests/ are made of it."""
 import base64
 import hashlib
 import json

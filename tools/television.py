@@ -1,5 +1,5 @@
-"""A television whose truth is known: what its clock shows at each reading, and what it said when. A `Set` is one on real
-sockets that does what televisions do on an evening. tools/wrong_tv.py and tests/live_watch.py are made of it."""
+"""A television whose truth is known: what its clock shows at each reading, and what it said when. A `Set` is one on
+real sockets that does what televisions do on an evening. tools/wrong_tv.py and tests/live_watch.py are made of it."""
 import json
 import random
 import socket
