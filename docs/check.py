@@ -95,21 +95,31 @@ def wait_for(port):
 
 
 def session_faults(page):
+    """A live block is tried again where it shows something else: the program does the same again, a busy machine
+    doesn't."""
     for live, first, lines in blocks(page.read_text()):
-        beside = television(lines) if live else None
-        seen = without_numbers if live else list
-        for number, command, shown in sessions(lines, first):
-            if ".mjs" in command and not command.startswith("sed ") and not shutil.which("node"):
-                print(f"skipped {page.name}, line {number}: there is no node")
-                continue
-            out, errors = run(command)
-            told = [line for line in shown if line.startswith("css: ")]
-            errors = [line for line in errors if line in told or not line.startswith("css: hint: ")]
-            if seen(out) != seen(line for line in shown if line not in told) or errors != told:
-                yield f"line {number}: $ {command}\n" + "\n".join(out + errors)
-        if beside:
-            beside.terminate()
-            beside.wait()
+        for _ in range(3 if live else 1):
+            faults = list(block_faults(page, live, first, lines))
+            if not faults:
+                break
+        yield from faults
+
+
+def block_faults(page, live, first, lines):
+    beside = television(lines) if live else None
+    seen = without_numbers if live else list
+    for number, command, shown in sessions(lines, first):
+        if ".mjs" in command and not command.startswith("sed ") and not shutil.which("node"):
+            print(f"skipped {page.name}, line {number}: there is no node")
+            continue
+        out, errors = run(command)
+        told = [line for line in shown if line.startswith("css: ")]
+        errors = [line for line in errors if line in told or not line.startswith("css: hint: ")]
+        if seen(out) != seen(line for line in shown if line not in told) or errors != told:
+            yield f"line {number}: $ {command}\n" + "\n".join(out + errors)
+    if beside:
+        beside.terminate()
+        beside.wait()
 
 
 def anchors(page):
