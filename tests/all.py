@@ -31,7 +31,7 @@ WORDS = {"tests/library.py": ["--over-gate"]}
 # The sessions of the pages have ports that somebody else may have.
 IN_OWN_NETWORK = {"docs/check.py"}
 NOT_RUN = {"bench/drives.py": "its program is proved by itself, which takes more time than there is"}
-LIMIT = 660  # Only what hangs takes so many seconds.
+LIMIT = 900  # Only what hangs takes so many seconds.
 RUNNING = set()
 
 
