@@ -39,6 +39,7 @@ REPORTS = "60"
 # how many reports they make, and after how many they close their TS session
 WORDS = [REPORTS, "30"]
 WRAPPED = "-Wl,--wrap=malloc,--wrap=realloc,--wrap=free"
+ARM, ARM_HEADER = "aarch64-linux-gnu-gcc", "/usr/aarch64-linux-gnu/include/time.h"
 WARNINGS = ["-Wall", "-Wextra", "-Werror"]
 # What the television shows: nanoseconds from its start, and what happens then.
 SCRIPT = [
@@ -108,8 +109,8 @@ class Suite:
         self.valgrind = memcheck if self.has("valgrind", "what memory does") else []
 
     def has(self, command, what):
-        """Whether the machine has a command; what can't be tried without it is skipped."""
-        is_there = shutil.which(command) is not None
+        """Whether the machine has a command, or a file; what can't be tried without it is skipped."""
+        is_there = shutil.which(command) is not None or os.path.exists(command)
         if not is_there:
             self.check.skip(what, f"there is no {command}")
         return is_there
@@ -135,8 +136,8 @@ class Suite:
         self.run("each call and each misuse", [*self.valgrind, exchange])
         self.run("each allocation refused", [*self.valgrind, self.built([TESTS / "refused.c"], WRAPPED)])
         header = self.library / "include" / "css_companion.h"
-        for compiler, words in (("g++", ["-std=c++17", "-x", "c++"]), ("aarch64-linux-gnu-gcc", ["-x", "c"])):
-            if self.has(compiler, f"the header by {compiler}"):
+        for compiler, words, needed in (("g++", ["-std=c++17", "-x", "c++"], "g++"), (ARM, ["-x", "c"], ARM_HEADER)):
+            if self.has(compiler, f"the header by {compiler}") and self.has(needed, f"the header by {compiler}"):
                 self.run(f"the header by {compiler}", [compiler, *words, *WARNINGS, "-fsyntax-only", header])
 
     def at_random(self):
