@@ -128,11 +128,15 @@ def at_television(port, program, check):
     dial_soon(port, "/cii").conn.close()
     long_head = head_of(port)[:-2] + b"X: " + b"a" * 80_000
     early = "a request that goes on after its head"
+    host, key = f"Host: 127.0.0.1:{port}", "Sec-WebSocket-Key: " + base64.b64encode(bytes(16)).decode()
     Beside([
         (opens, "a list of tokens in Connection makes a session", port, KEPT),
         (opens, "a Connection of two lines makes a session", port, TWO_LINES),
         (refused, "a request without a key", port, head_of(port, key=""), ["400"]),
         (refused, "a request with a bad key", port, head_of(port, key="abc"), ["400"]),
+        (refused, "a request with two keys", port, head_of(port, (*UPGRADED, key)), ["400"]),
+        (refused, "a request without a host", port, head_of(port).replace(host.encode() + b"\r\n", b""), ["400"]),
+        (refused, "a request with two hosts", port, head_of(port, (*UPGRADED, host)), ["400"]),
         (refused, "what is no request", port, b"\1\2\3 hello\r\n\r\n", ["400"]),
         (refused, "a request for another path", port, head_of(port, path="/other"), ["404"]),
         (refused, early, port, head_of(port, path="/other") + b"a" * 200_000, ["404"]),
