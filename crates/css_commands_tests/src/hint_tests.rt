@@ -32,6 +32,7 @@ fn check_hint(rt: &impl Abort, alloc: Global, status: &Status, told: &Told, help
     let asked = Asked {
         words: &words,
         dial: Some(Failure::HttpStatus(404)),
+        wrong_answer: None,
         line: Some(refused.as_bytes()),
         first_line_returned: false,
         course: Course {

@@ -22,7 +22,7 @@ fn words_after(alloc: Global, status: &Status, asked: &Asked<'_>) -> Option<Stri
         Status::ChildFault {
             status: Err(failure),
         } => child_fault(alloc, *failure),
-        Status::Unreachable { .. } => unreachable(alloc, asked.words, asked.dial),
+        Status::Unreachable { .. } => unreachable(alloc, asked),
         Status::Spent { .. } => spent(alloc, &asked.course),
         Status::BadCii { text, fault } => bad_cii(alloc, *text, *fault, &asked.course),
         Status::BadUrl { property } => bad_url(alloc, *property, &asked.course),
