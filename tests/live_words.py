@@ -1,7 +1,7 @@
 """Each status that the program can end with: its status line, which stays as it is, and the hint that may follow."""
-import os, re, subprocess, time
+import os, re, subprocess, threading, time
 
-from live_edge import Clock, Listener, closed_port, greet, hold, state, teller
+from live_edge import Clock, Listener, closed_port, dial_soon, greet, hold, reset, state, stop, teller
 from live_peer import start
 
 HINT = "css: hint: "
@@ -230,6 +230,25 @@ def logged(check, program, port):
         check(f"CSS_LOG={asked}: what the sockets do", bool(asked) == told, lines)
 
 
+def departures(check, program, port):
+    """The log says of a peer that went away without a close that it did, and only of one that broke a rule that."""
+    child = start(["env", "CSS_LOG=1", *program], ["tv", "--port", str(port), "--turns", "1000000"])
+    late = threading.Timer(60, child.kill)  # Else a line that doesn't come would be waited for.
+    late.start()
+    for name, leave, words in (
+            ("ends its connection", lambda conn: conn.close(), "ended without a close"),
+            ("ends it within a frame", lambda conn: (conn.sendall(b"\x81\xfe"), conn.close()), "ended without a close"),
+            ("resets it", reset, "ended without a close"),
+            ("sends a bad frame", lambda conn: conn.sendall(b"\xf1\x80abcd"), "broke a rule of WebSockets")):
+        peer = dial_soon(port, "/cii")
+        peer.text(20)
+        leave(peer.conn)
+        told = next((line.decode() for line in child.stderr if b" closed: " in line), "nothing")
+        check(f"the log of a peer that {name}", words in told, told.strip())
+    late.cancel()
+    stop(child)
+
+
 def statuses(port, program, check):
     words(check, program)
     refused_lines(check, program)
@@ -238,3 +257,4 @@ def statuses(port, program, check):
     companions(check, program, port + 2)
     records(check, program)
     logged(check, program, port + 4)
+    departures(check, program, port + 4)

@@ -48,7 +48,7 @@ fn name_of(kind: Kind) -> &'static str {
 fn why(end: End) -> &'static str {
     match end {
         End::ByPeer => "the peer closed it",
-        End::Broken => "the connection broke, or took too little",
+        End::Broken => "the connection ended without a close, or took too little",
         End::ByUs(CloseCode::Size) => "a text was too long",
         End::ByUs(CloseCode::Protocol) => "the peer broke a rule of WebSockets",
         End::ByUs(CloseCode::Invalid) => "a text wasn't UTF-8",
