@@ -44,7 +44,7 @@ def words(check, program):
             ("companion --cii ws://h/cii --reports 0", "1000000"),
             ("companion --cii ws://h/cii --earliest 1", "--latest"),
             ("relay --relative --cii ws://h/cii", "--relative"), ("generate --seed 1", "--lines"),
-            ("tv extra", "extra")):
+            ("tv extra", "extra"), ("\u00e4" * 100, r"no such command: (\?\?)+$")):
         check_end(check, f"css {text}", start(program, text.split()), 1, "css: usage", hint)
 
 
@@ -171,7 +171,11 @@ def companions(check, program, port):
     against("a text with a wrong property", teller(b'{"wcUrl":5}'), 7, "css: cii text 1: field wcUrl",
             'wcUrl .*: {"wcUrl":5}$')
     against("a moved address", teller({**state(), "wcUrl": old}, moved), 8, "css: moved wcUrl",
-            f"was {old} and is udp://127.0.0.1:9")
+            f"was {old} and is udp://127.0.0.1:9: start the companion again$")
+    # the 60 bytes that are shown end within the letter
+    far = {**state(), "wcUrl": f"udp://{'a' * 53}\u00e4\u00e4"}
+    against("a moved address of more than ASCII", teller({**state(), "wcUrl": old}, far), 8, "css: moved wcUrl",
+            f"was {old} and is udp://a{{53}}: start")
     against("an address that is none", teller({**state(), "tsUrl": "nowhere"}), 13, "css: bad url tsUrl",
             "tsUrl is no address of the form ws:.*: nowhere$")
     against("a wall clock's that is none", teller({**state(), "wcUrl": "http://h:1"}), 13, "css: bad url wcUrl",
@@ -208,6 +212,16 @@ def companions(check, program, port):
     got, lines, _ = told_by(child)
     check("nobody listens: unreachable, and why", got == 10 and len(lines) == 2 and is_hint(lines[1])
           and "nobody listens" in lines[1], (got, lines))
+
+
+def relays(check, program, port):
+    """What a relay says where its television moves is for somebody who runs a relay."""
+    old = f"udp://127.0.0.1:{closed_port()}"
+    server = Listener(teller({**state(), "wcUrl": old}, {**state(), "wcUrl": "udp://127.0.0.1:9"}))
+    url = f"ws://127.0.0.1:{server.port}/cii"
+    told = told_by(start(program, ["relay", "--cii", url, "--port", str(port), "--seconds", "3"]))
+    check("a relay says nothing of a companion", not any("companion" in line for line in told[1]), told)
+    server.end()
 
 
 def records(check, program):
@@ -255,6 +269,7 @@ def statuses(port, program, check):
     offline(check, program)
     sockets(check, program, port)
     companions(check, program, port + 2)
+    relays(check, program, port + 2)
     records(check, program)
     logged(check, program, port + 4)
     departures(check, program, port + 4)
