@@ -400,7 +400,7 @@ impl Sockets {
         self.wait_for(rt, into)
     }
 
-    pub(crate) fn send_datagram(&self, peer: u32, bytes: &[u8; 32]) -> Result<(), OutFault> {
+    pub(crate) fn send_datagram(&mut self, peer: u32, bytes: &[u8; 32]) -> Result<(), OutFault> {
         self.datagrams.send(peer, bytes)
     }
 
