@@ -1,10 +1,10 @@
 """Names of hosts: one with two addresses, and one that nobody knows. They need a file of hosts and a server of names of
 their own, which only root can put in the place of the machine's, for the program alone."""
-import json, os, socket, struct, subprocess, tempfile, threading, time
+import json, os, select, socket, struct, subprocess, tempfile, threading, time
 
 from live_edge import PATIENCE, Beside, Listener, state, stop, teller, wait_for
-from live_peer import TEXT, start
-from live_server import Server, state_of
+from live_peer import TEXT, nanos, stamp, start
+from live_server import Server, state_of, wall
 
 NAME, RESOLVER = "two-homes", "127.0.0.77"
 UNKNOWN, SHARED, SILENT = "nobody.example", "neither.example", "silent.example"
@@ -95,6 +95,55 @@ def are_apart(times, seconds):
     return len(times) > 1 and all(at >= seconds * number for number, at in enumerate(times))
 
 
+class Clocks:
+    """A wall clock at one of the two addresses of the name. It answers where the second address is asked: the last
+    request that came to its own."""
+
+    def __init__(self, home):
+        self.home, self.asked, self.last, self.ends = home, [], {}, False
+        self.sockets = [socket.socket(family, socket.SOCK_DGRAM) for family in (socket.AF_INET6, socket.AF_INET)]
+        self.sockets[0].bind(("::1", 0))
+        self.port = self.sockets[0].getsockname()[1]
+        self.sockets[1].bind(("127.0.0.1", self.port))
+        threading.Thread(target=self.take, daemon=True).start()
+
+    def take(self):
+        while not self.ends:
+            for one in select.select(self.sockets, [], [], 0.1)[0]:
+                at, (data, sender) = self.sockets.index(one), one.recvfrom(64)
+                self.last[at] = data[8:16], sender
+                self.asked.append((nanos(data[8:16]), at))
+                if at == 1:
+                    self.answer(*self.last[self.home])
+
+    def answer(self, originate, sender):
+        received = stamp(wall())
+        answer = bytes([0, 1, 0xec, 0]) + struct.pack(">I", 128000) + originate + received + stamp(wall())
+        self.sockets[self.home].sendto(answer, sender)
+
+    def places(self):
+        """The addresses that were asked, in the order of the requests."""
+        return [at for _, at in sorted(self.asked)]
+
+    def end(self):
+        self.ends = True
+
+
+def asked_in_turn(check, program, words, home, name):
+    """The sessions are at another address than the wall clock, so nothing tells at which of its two the clock is."""
+    clocks = Clocks(home)
+    server = Listener(teller({**state(), "wcUrl": f"udp://{NAME}:{clocks.port}"}), host="127.0.0.5")
+    child = start([*words, *program], ["watch", "--cii", f"ws://127.0.0.5:{server.port}/cii", "--seconds", "40",
+                                       "--ask-every", "50000000"])
+    answer = next((line for line in child.stdout if b'"event":"answer"' in line), b"")
+    places = clocks.places()
+    stop(child)
+    check(f"{name} is accepted", answer != b"", places[:20])
+    check(f"{name}: the fifth request goes to the second address", places[:5] == [0, 0, 0, 0, 1], places[:20])
+    for one in (server, clocks):
+        one.end()
+
+
 def unknown(check, program, names, words):
     """A name that nobody knows is looked up once in five seconds."""
     begun = time.monotonic()
@@ -138,4 +187,6 @@ def named_hosts(port, program, check):
             check.skip("names of hosts", "no file can be put in the place of the machine's")
             return
         Beside([(two_homes, program, port, words),
+                (asked_in_turn, program, words, 1, "an answer of the second address"),
+                (asked_in_turn, program, words, 0, "a late answer of the first address"),
                 *[(call, program, names, words) for call in (unknown, shared, unanswered)]]).tell(check)

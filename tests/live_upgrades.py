@@ -4,6 +4,7 @@ import base64, os, threading, time
 from live_edge import (PATIENCE, UPGRADED, Beside, Listener, companion, dial_soon, end_of, greet, processor_times,
                        stop, upgraded)
 from live_peer import Peer, accept_key, connection, start
+from live_words import is_hint
 
 KEPT = ("Upgrade: websocket", "Connection: keep-alive, Upgrade")
 TWO_LINES = ("Upgrade: websocket", "Connection: keep-alive", "Connection: upgrade")
@@ -140,11 +141,15 @@ def at_television(port, program, check):
     dial_soon(port, "/cii").conn.close()
     long_head = head_of(port)[:-2] + b"X: " + b"a" * 80_000
     early = "a request that goes on after its head"
+    host, key = f"Host: 127.0.0.1:{port}", "Sec-WebSocket-Key: " + base64.b64encode(bytes(16)).decode()
     Beside([
         (opens, "a list of tokens in Connection makes a session", port, KEPT),
         (opens, "a Connection of two lines makes a session", port, TWO_LINES),
         (refused, "a request without a key", port, head_of(port, key=""), ["400"]),
         (refused, "a request with a bad key", port, head_of(port, key="abc"), ["400"]),
+        (refused, "a request with two keys", port, head_of(port, (*UPGRADED, key)), ["400"]),
+        (refused, "a request without a host", port, head_of(port).replace(host.encode() + b"\r\n", b""), ["400"]),
+        (refused, "a request with two hosts", port, head_of(port, (*UPGRADED, host)), ["400"]),
         (refused, "what is no request", port, b"\1\2\3 hello\r\n\r\n", ["400"]),
         (refused, "a request for another path", port, head_of(port, path="/other"), ["404"]),
         (refused, early, port, head_of(port, path="/other") + b"a" * 200_000, ["404"]),
@@ -200,6 +205,20 @@ def answered_by(check, program, name, lines, slow=False):
     check(name, seen.get("holds", False), seen.get("error", ""))
 
 
+def wrongly_answered(check, program, name, told, instead, words):
+    """A server's answer of status 101 has something else in the place of what makes a session. What was wrong stands in
+    the log and in the hint."""
+    server = Listener(lambda peer: peer.conn.sendall(upgraded(peer.head()).replace(told, instead)))
+    child = companion(["env", "CSS_LOG=1", *program], server.port, "--seconds", "5")
+    log = child.stderr.read().decode().splitlines()
+    status = child.wait(20)
+    server.end()
+    dials = [line for line in log if line.startswith("css: log: CII dialled ")]
+    check(f"{name} is told as that in the log", any(line.endswith(words) for line in dials), dials[:2])
+    hints = [line for line in log if is_hint(line)]
+    check(f"{name} is told as that in the hint", status == 10 and len(hints) == 1 and hints[0].endswith(words), hints)
+
+
 def origin(check, program):
     def serve(peer, seen):
         seen["head"] = greet(peer)
@@ -223,6 +242,15 @@ def at_companion(program, check):
         (answered_by, program, "a companion takes a Connection of two lines", TWO_LINES),
         (answered_by, program, "a companion takes an answer that comes byte by byte",
          (*UPGRADED, "Server: " + "a" * 200), True),
+        (wrongly_answered, program, "a wrong accept", b"Accept: ", b"Accept: x", "its Sec-WebSocket-Accept is wrong"),
+        (wrongly_answered, program, "a Connection without Upgrade", b"Connection: Upgrade", b"Connection: close",
+         "its Connection lacks Upgrade"),
+        (wrongly_answered, program, "an Upgrade to something else", b"websocket", b"h2c", "its Upgrade isn't websocket"),
+        (wrongly_answered, program, "an extension", b"Connection", b"Sec-WebSocket-Extensions: a\r\nConnection",
+         "an extension that nobody asked for"),
+        (wrongly_answered, program, "a subprotocol", b"Connection", b"Sec-WebSocket-Protocol: a\r\nConnection",
+         "a subprotocol that nobody asked for"),
+        (wrongly_answered, program, "another version of HTTP", b"HTTP/1.1", b"HTTP/1.0", "not of HTTP/1.1"),
         (origin, program),
         (binary_to, program),
     ]).tell(check)

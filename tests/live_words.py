@@ -1,7 +1,7 @@
 """Each status that the program can end with: its status line, which stays as it is, and the hint that may follow."""
-import os, re, subprocess
+import os, re, subprocess, threading
 
-from live_edge import Clock, Listener, closed_port, dial_soon, greet, hold, state, stop, teller
+from live_edge import Clock, Listener, closed_port, dial_soon, greet, hold, reset, state, stop, teller
 from live_peer import start
 
 HINT = "css: hint: "
@@ -44,7 +44,7 @@ def words(check, program):
             ("companion --cii ws://h/cii --reports 0", "1000000"),
             ("companion --cii ws://h/cii --earliest 1", "--latest"),
             ("relay --relative --cii ws://h/cii", "--relative"), ("generate --seed 1", "--lines"),
-            ("tv extra", "extra")):
+            ("tv extra", "extra"), ("\u00e4" * 100, r"no such command: (\?\?)+$")):
         check_end(check, f"css {text}", start(program, text.split()), 1, "css: usage", hint)
 
 
@@ -171,7 +171,11 @@ def companions(check, program, port):
     against("a text with a wrong property", teller(b'{"wcUrl":5}'), 7, "css: cii text 1: field wcUrl",
             'wcUrl .*: {"wcUrl":5}$')
     against("a moved address", teller({**state(), "wcUrl": old}, moved), 8, "css: moved wcUrl",
-            f"was {old} and is udp://127.0.0.1:9")
+            f"was {old} and is udp://127.0.0.1:9: start the companion again$")
+    # the 60 bytes that are shown end within the letter
+    far = {**state(), "wcUrl": f"udp://{'a' * 53}\u00e4\u00e4"}
+    against("a moved address of more than ASCII", teller({**state(), "wcUrl": old}, far), 8, "css: moved wcUrl",
+            f"was {old} and is udp://a{{53}}: start")
     against("an address that is none", teller({**state(), "tsUrl": "nowhere"}), 13, "css: bad url tsUrl",
             "tsUrl is no address of the form ws:.*: nowhere$")
     against("a wall clock's that is none", teller({**state(), "wcUrl": "http://h:1"}), 13, "css: bad url wcUrl",
@@ -210,6 +214,16 @@ def companions(check, program, port):
           and "nobody listens" in lines[1], (got, lines))
 
 
+def relays(check, program, port):
+    """What a relay says where its television moves is for somebody who runs a relay."""
+    old = f"udp://127.0.0.1:{closed_port()}"
+    server = Listener(teller({**state(), "wcUrl": old}, {**state(), "wcUrl": "udp://127.0.0.1:9"}))
+    url = f"ws://127.0.0.1:{server.port}/cii"
+    told = told_by(start(program, ["relay", "--cii", url, "--port", str(port), "--seconds", "3"]))
+    check("a relay says nothing of a companion", not any("companion" in line for line in told[1]), told)
+    server.end()
+
+
 def records(check, program):
     """A record with a wrong report."""
     given = b"css-record 1 0 0 urn:dvb:css:timeline:pts -\nturn 5\nreport 1 ticks 1 2\n"
@@ -230,11 +244,32 @@ def logged(check, program, port):
         check(f"CSS_LOG={asked}: what the sockets do", bool(asked) == told, lines)
 
 
+def departures(check, program, port):
+    """The log says of a peer that went away without a close that it did, and only of one that broke a rule that."""
+    child = start(["env", "CSS_LOG=1", *program], ["tv", "--port", str(port), "--turns", "1000000"])
+    late = threading.Timer(60, child.kill)  # Else a line that doesn't come would be waited for.
+    late.start()
+    for name, leave, words in (
+            ("ends its connection", lambda conn: conn.close(), "ended without a close"),
+            ("ends it within a frame", lambda conn: (conn.sendall(b"\x81\xfe"), conn.close()), "ended without a close"),
+            ("resets it", reset, "ended without a close"),
+            ("sends a bad frame", lambda conn: conn.sendall(b"\xf1\x80abcd"), "broke a rule of WebSockets")):
+        peer = dial_soon(port, "/cii")
+        peer.text(20)
+        leave(peer.conn)
+        told = next((line.decode() for line in child.stderr if b" closed: " in line), "nothing")
+        check(f"the log of a peer that {name}", words in told, told.strip())
+    late.cancel()
+    stop(child)
+
+
 def statuses(port, program, check):
     words(check, program)
     refused_lines(check, program)
     offline(check, program)
     sockets(check, program, port)
     companions(check, program, port + 2)
+    relays(check, program, port + 2)
     records(check, program)
     logged(check, program, port + 4)
+    departures(check, program, port + 4)

@@ -126,6 +126,7 @@ fn main(rt: HostRuntime) -> ExitCode {
         let asked = Asked {
             words,
             dial: outside.last_dial_failure(),
+            wrong_answer: outside.wrong_answer(),
             line: refused_line(&status, &source),
             first_line_returned: source.first_line_returned(),
             course: course_of(outside.seen()),

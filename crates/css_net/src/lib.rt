@@ -4,6 +4,7 @@
 //! in turn is held for 5 milliseconds at most where nothing comes, and a bounded time where much comes.
 #![tactic(auto)]
 
+mod answers;
 mod datagrams;
 mod dials;
 mod heads;

@@ -1,5 +1,6 @@
 //! What the edge does, in lines on standard error for a person who asks for them.
 
+use crate::answers::DialFault;
 use crate::names::words_of;
 use crate::session::End;
 use css_num::Text;
@@ -22,7 +23,7 @@ pub(crate) enum Event<'a> {
     /// It dialled, and what it opened is this peer's.
     Dialled(Kind, &'a Address, u32),
     /// A dial failed.
-    DialledNot(Kind, &'a Address, OutFault),
+    DialledNot(Kind, &'a Address, DialFault),
     /// A session was opened from there, which is this peer's.
     Opened(Kind, u32, Option<SocketAddr>),
     /// A handshake from there was refused, for this reason.
@@ -47,7 +48,7 @@ fn name_of(kind: Kind) -> &'static str {
 fn why(end: End) -> &'static str {
     match end {
         End::ByPeer => "the peer closed it",
-        End::Broken => "the connection broke, or took too little",
+        End::Broken => "the connection ended without a close, or took too little",
         End::ByUs(CloseCode::Size) => "a text was too long",
         End::ByUs(CloseCode::Protocol) => "the peer broke a rule of WebSockets",
         End::ByUs(CloseCode::Invalid) => "a text wasn't UTF-8",
@@ -77,17 +78,18 @@ fn said(fault: OutFault) -> &'static str {
 #[derive(Clone, Copy)]
 enum Went {
     OpenAs(u32),
-    Failed(OutFault),
+    Failed(DialFault),
 }
 
 impl fmt::Display for Went {
     fn fmt<W: fmt::Write>(&self, f: &mut fmt::Formatter<W>) -> fmt::Result {
         match *self {
             Went::OpenAs(peer) => write!(f, "open as {peer}"),
-            Went::Failed(OutFault::Failed(Failure::HttpStatus(status))) => {
+            Went::Failed(DialFault::Plain(OutFault::Failed(Failure::HttpStatus(status)))) => {
                 write!(f, "HTTP status {status}")
             }
-            Went::Failed(fault) => f.write_str(said(fault)),
+            Went::Failed(DialFault::Plain(fault)) => f.write_str(said(fault)),
+            Went::Failed(DialFault::Answered(wrong)) => f.write_str(wrong.words()),
         }
     }
 }
@@ -139,7 +141,7 @@ impl fmt::Display for Event<'_> {
                     f,
                     "listening on {}: {}",
                     Port(host, port),
-                    Went::Failed(fault)
+                    Went::Failed(DialFault::Plain(fault))
                 )
             }
             Event::Dialled(kind, to, peer) => write_dial(f, kind, to, Went::OpenAs(peer)),
