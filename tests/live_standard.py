@@ -1,12 +1,51 @@
-"""What a run's standard streams and its child come to."""
+"""Standard streams that a run is started without."""
 import os, signal
 
-from live_edge import stop, wait_for
-from live_peer import start
+from live_edge import Beside, dial_soon, stop, wait_for
+from live_peer import start, television
 
+HERE = os.path.dirname(os.path.abspath(__file__))
+CRATES = os.path.join(HERE, "..", "crates")
 SCRIPT = "0 programme dvb://1.2.3\n0 timeline 1 urn:dvb:css:timeline:pts 1 90000 900000\n0 change 1\n"
+STREAMS = {"input": "<&-", "output": ">&-", "error": "2>&-"}
 REPORTS = ["--report-every", "500000000", "--ask-every", "50000000"]
 HANGS = 30  # Only what hangs takes so many seconds.
+
+
+def example(name):
+    with open(os.path.join(HERE, "..", "examples", name), encoding="utf-8") as file:
+        return file.read()
+
+
+def without(program, streams, log=False):
+    """The words that start a program without these streams, and with the log of its sockets where that is wanted."""
+    closed = " ".join(STREAMS[stream] for stream in streams)
+    return ["sh", "-c", f'{"CSS_LOG=1 " if log else ""}exec "$@" {closed}', "sh", *program]
+
+
+def told(child):
+    """A run's status, its output and the first line of its errors."""
+    output, errors = child.stdout.read().decode(), child.stderr.read().decode()
+    status = child.wait(HANGS)
+    return status, output, (errors.splitlines() or [""])[0]
+
+
+# ---- streams that a run is started without
+
+def closed(check, program, name, words, given, wanted):
+    """Each of the three streams is closed in turn: what the status is then. What the run prints without a standard
+    error is what it prints anyhow, as far as that is known before."""
+    for stream, status in zip(STREAMS, wanted):
+        ended, output, errors = told(start(without(program, [stream], log=True), words, given))
+        check(f"{name} without a standard {stream} ends with {status}", ended == status, (ended, output[-200:], errors))
+        if stream == "error" and status == 0 and words[:1] == ["watch"]:
+            check("and nothing of its log comes into a session", '"event":"end"' not in output, output[-400:])
+
+
+def descriptors(process):
+    """What the three numbers of the standard streams are open on."""
+    folder = f"/proc/{process}/fd"
+    return [os.readlink(f"{folder}/{number}") if str(number) in os.listdir(folder) else "closed" for number in range(3)]
 
 
 def children(process):
@@ -19,6 +58,25 @@ def end_pair(child):
     for one in children(child.pid):
         os.kill(one, signal.SIGKILL)
     stop(child)
+
+
+def numbers(check, program, name, streams, words, port):
+    """No socket has the number of a stream that a run is started without."""
+    child = start(without(program, streams), words, SCRIPT)
+    try:
+        dial_soon(port, "/cii").conn.close()
+        for process in [child.pid, *children(child.pid)]:
+            opened = descriptors(process)
+            check(f"{name} gives no socket the number of a standard stream",
+                  not any(kind in link for link in opened for kind in ("socket", "event", "closed")), opened)
+    finally:
+        end_pair(child)
+
+
+def first_program():
+    """The program that replays and does nothing else, where it was built."""
+    built = [os.path.join(CRATES, "css_first", "out", *place) for place in (["css_first"], ["proved", "css_first"])]
+    return os.environ.get("CSS_FIRST") or next(filter(os.path.exists, built), None)
 
 
 # ---- the end of a pair
@@ -48,5 +106,36 @@ def pair_ends(check, program, port):
 
 
 def standard(port, program, check):
-    """Two ports."""
-    pair_ends(check, program, port)
+    """Sixteen ports."""
+    server = television(program, port, SCRIPT)
+    cii = ["--cii", f"ws://127.0.0.1:{port}/cii"]
+    evening, at = example("evening.schedule"), "--port"
+    runs = [
+        ("replay", ["replay"], evening, (4, 5, 0)),
+        ("migrate", ["migrate"], evening, (4, 5, 0)),
+        ("agree", ["agree"], example("two.answers"), (4, 5, 0)),
+        ("audit", ["audit"], example("first.record"), (4, 5, 0)),
+        ("generate", ["generate", "--seed", "1", "--lines", "20"], "", (0, 5, 0)),
+        ("survey", ["survey", "--seed", "1", "--lines", "20"], "", (0, 5, 0)),
+        ("companion", ["companion", *cii, "--reports", "1", *REPORTS], "", (4, 5, 0)),
+        ("companion --record", ["companion", "--record", *cii, "--reports", "1", *REPORTS], "", (0, 5, 0)),
+        ("watch", ["watch", *cii, "--seconds", "3", *REPORTS], "", (0, 5, 0)),
+        ("relay", ["relay", *cii, at, str(port + 2), "--turns", "300"], "", (0, 0, 0)),
+        ("tv", ["tv", at, str(port + 4), "--turns", "20"], SCRIPT, (4, 0, 0)),
+        ("pair", ["pair", at, str(port + 6), "--turns", "1000", "--reports", "1", *REPORTS], SCRIPT, (4, 5, 0)),
+    ]
+    calls = [(closed, program, *run) for run in runs]
+    if first := first_program():
+        calls.append((closed, [first], "css_first", [], evening, (4, 5, 0)))
+    else:
+        print("skipped css_first: it wasn't built", flush=True)
+    many = ["--turns", "1000000"]
+    calls += [
+        (numbers, program, "tv", ["output", "error"], ["tv", at, str(port + 8), *many], port + 8),
+        (numbers, program, "relay", list(STREAMS), ["relay", *cii, at, str(port + 10), *many], port + 10),
+        (numbers, program, "pair", ["output", "error"],
+         ["pair", at, str(port + 12), *many, "--reports", "1000", *REPORTS], port + 12),
+    ]
+    Beside(calls).tell(check)
+    pair_ends(check, program, port + 12)
+    stop(server)

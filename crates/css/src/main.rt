@@ -5,7 +5,7 @@ use css_app::{Status, run, tell};
 use css_drive::{Before, Nobody};
 use css_follow::{Cues, Meter};
 use css_hints::{Asked, Course, hint};
-use css_net::{ChildSpawner, NetOutside, Seen, StdSink, StdSource};
+use css_net::{ChildSpawner, NetOutside, Seen, StdSink, StdSource, take_standard_numbers};
 use css_outside::{Sink, write_all};
 use css_told::{TellingOutside, TellingSink};
 use std::alloc::Global;
@@ -96,6 +96,7 @@ fn cues_and_meter(alloc: Global) -> Before<Cues, Before<Meter, Nobody>> {
 }
 
 fn main(rt: HostRuntime) -> ExitCode {
+    take_standard_numbers(&rt);
     let mut source = StdSource::new(rt.reader(), &rt);
     source.keep_lines();
     let mut sink = TellingSink::new(StdSink::new(io::writer(&rt), &rt));
