@@ -1,14 +1,15 @@
-"""Standard streams that a run is started without."""
-import os, signal
+"""Standard streams that a run is started without, and a standard error that nobody reads."""
+import fcntl, os, signal, subprocess, time
 
 from live_edge import Beside, dial_soon, stop, wait_for
-from live_peer import start, television
+from live_peer import STARTED, connection, serves, start, television
 
 HERE = os.path.dirname(os.path.abspath(__file__))
 CRATES = os.path.join(HERE, "..", "crates")
 SCRIPT = "0 programme dvb://1.2.3\n0 timeline 1 urn:dvb:css:timeline:pts 1 90000 900000\n0 change 1\n"
 STREAMS = {"input": "<&-", "output": ">&-", "error": "2>&-"}
 REPORTS = ["--report-every", "500000000", "--ask-every", "50000000"]
+PIPE_SIZE, REQUESTS = 16384, 400  # A line has some 70 bytes.
 HANGS = 30  # Only what hangs takes so many seconds.
 
 
@@ -79,6 +80,101 @@ def first_program():
     return os.environ.get("CSS_FIRST") or next(filter(os.path.exists, built), None)
 
 
+# ---- a standard error that nobody reads
+
+def small_pipe():
+    source, sink = os.pipe()
+    fcntl.fcntl(sink, fcntl.F_SETPIPE_SZ, PIPE_SIZE)
+    return source, sink
+
+
+def full_pipe():
+    source, sink = small_pipe()
+    os.write(sink, b"." * PIPE_SIZE)
+    return source, sink
+
+
+def refused(port):
+    """Whether a request that is no upgrade is answered."""
+    try:
+        conn = connection(port)
+        conn.sendall(b"GET /nothing HTTP/1.1\r\nHost: 127.0.0.1\r\n\r\n")
+        answer = b""
+        while more := conn.recv(4096):
+            answer += more
+        return answer.startswith(b"HTTP/1.1 404 ")
+    except OSError:
+        return False
+
+
+def unread_log(check, program, port):
+    """A television's log goes to a pipe that nobody reads."""
+    source, sink = small_pipe()
+    child = subprocess.Popen(["env", "CSS_LOG=1", *program, "tv", "--port", str(port), "--turns", "1000000"],
+                             stdin=subprocess.PIPE, stdout=subprocess.PIPE, stderr=sink)
+    STARTED.append(child)
+    os.close(sink)
+    child.stdin.write(SCRIPT.encode())
+    child.stdin.close()
+    dial_soon(port, "/cii").conn.close()
+    answered = 0
+    while answered < REQUESTS and refused(port):
+        answered += 1
+    check("a television whose log nobody reads answers each request", answered == REQUESTS, answered)
+    check("and still serves", serves(port))
+    os.set_blocking(source, False)
+    kept = os.read(source, 65536).decode().splitlines()
+    check("the log has whole lines up to there", all(line.startswith("css: log: ") for line in kept), kept[-1:])
+    check("and no word of dropped ones", not any("dropped" in line for line in kept))
+    after = []
+
+    def next_line():
+        refused(port)
+        try:
+            after.extend(os.read(source, 65536).decode().splitlines())
+        except BlockingIOError:
+            pass
+        return after
+
+    wait_for(next_line)
+    words = after[0].split() if after else []
+    dropped = int(words[2]) if words[3:6] == ["lines", "were", "dropped;"] else 0
+    check("the next line says how many were dropped", REQUESTS <= len(kept) + dropped < REQUESTS + 20,
+          (len(kept), after[:1]))
+    check("and the one after it doesn't", not any("dropped" in line for line in after[1:]))
+    child.kill()
+    child.wait()
+    os.close(source)
+
+
+def unread_status(check, program):
+    """A run that ends can't tell its status."""
+    source, sink = full_pipe()
+    child = subprocess.Popen([*program, "no-command"], stdin=subprocess.DEVNULL, stderr=sink)
+    STARTED.append(child)
+    os.close(sink)
+    check("a run whose status nobody reads ends all the same", wait_for(lambda: child.poll() is not None, HANGS)
+          and child.wait() == 1, child.poll())
+    os.close(source)
+
+
+def slow_status(check, program):
+    """A run's status is read slowly: at first the pipe is full."""
+    source, sink = full_pipe()
+    child = subprocess.Popen([*program, "no-command"], stdin=subprocess.DEVNULL, stderr=sink)
+    STARTED.append(child)
+    os.close(sink)
+    read = b""
+    while more := os.read(source, 512):
+        read += more
+        time.sleep(0.01)
+    lines = read.decode().lstrip(".").splitlines()
+    check("a status that is read slowly comes through, and its hint too",
+          lines[:1] == ["css: usage"] and lines[1:2] != [] and lines[1].startswith("css: hint: "), lines)
+    check("and the run has its status", child.wait(HANGS) == 1)
+    os.close(source)
+
+
 # ---- the end of a pair
 
 def open_states(process):
@@ -135,6 +231,9 @@ def standard(port, program, check):
         (numbers, program, "relay", list(STREAMS), ["relay", *cii, at, str(port + 10), *many], port + 10),
         (numbers, program, "pair", ["output", "error"],
          ["pair", at, str(port + 12), *many, "--reports", "1000", *REPORTS], port + 12),
+        (unread_log, program, port + 14),
+        (unread_status, program),
+        (slow_status, program),
     ]
     Beside(calls).tell(check)
     pair_ends(check, program, port + 12)

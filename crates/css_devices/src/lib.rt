@@ -13,6 +13,6 @@ mod window;
 
 pub use child::ChildSpawner;
 pub use clock::monotone;
-pub use standard::take_standard_numbers;
+pub use standard::{PatientWriter, errors_take_line, take_standard_numbers};
 pub use streams::{StdSink, StdSource};
 pub use tally::{FIRST_SENDER, Tally};
