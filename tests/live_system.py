@@ -1,9 +1,11 @@
-"""What the system may do to a run: streams that don't block, a first word that is another path, few descriptors."""
+"""What the system may do to a run: streams that don't block, are closed or that nobody reads, a first word that is
+another path, few descriptors."""
 import os, subprocess, threading, time
 
 from live_edge import Beside, dial_soon, processor_times, stop
 from live_peer import start
 from live_server import Server
+from live_standard import standard
 
 SCHEDULE = os.path.join(os.path.dirname(os.path.abspath(__file__)), "..", "examples", "evening.schedule")
 SCRIPT = "0 programme dvb://1.2.3\n0 timeline 1 urn:dvb:css:timeline:pts 1 90000 900000\n0 change 1\n"
@@ -128,3 +130,4 @@ def system(port, program, check):
         *[(first_word, file, port + 2 * at, word) for at, word in enumerate(first)],
         *[(descriptors, words, port + 6 + 2 * at, most) for at, most in enumerate((4, 5, 6, 7, 8))],
     ]).tell(check)
+    standard(port, program, check)

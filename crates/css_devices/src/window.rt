@@ -3,10 +3,13 @@
 
 /// How many of the last bytes are kept at least.
 const LEAST_KEPT: usize = 16_384;
-/// How many bytes there is room for. Where it is full, all but the last go.
-const MOST_KEPT: usize = 32_768;
 /// How many bytes are added at once: a window that let its front go has room for them.
 const MOST_ADDED: usize = 4_096;
+/// How many bytes there is room for. Where it is full, the last ones are copied to the front, and neither part reaches
+/// into the other.
+const MOST_KEPT: usize = 2 * LEAST_KEPT + MOST_ADDED;
+/// How many bytes a number of 8 bits can count.
+const MOST_COUNTED: usize = 255;
 
 const LINE_FEED: u8 = b'\n';
 
@@ -26,8 +29,20 @@ pub(crate) struct Window {
     returned: Option<bool>,
 }
 
+/// How many line feeds are in at most 255 bytes. The compiler counts 16 bytes at once where the count is a byte too.
+fn few_feeds_in(bytes: &[u8]) -> u8 {
+    let is_feed = |byte: &u8| u8::from(*byte == LINE_FEED);
+    bytes
+        .iter()
+        .fold(0u8, |feeds, byte| feeds.wrapping_add(is_feed(byte)))
+}
+
 fn feeds_in(bytes: &[u8]) -> u64 {
-    bytes.iter().filter(|byte| **byte == LINE_FEED).count() as u64
+    let mut feeds = 0u64;
+    for part in bytes.chunks(MOST_COUNTED) {
+        feeds = feeds.wrapping_add(u64::from(few_feeds_in(part)));
+    }
+    feeds
 }
 
 /// Whether the first line of these bytes ends with a carriage return, where it ends.
@@ -56,16 +71,17 @@ impl Window {
 
     /// Lets the front go, as far as it needn't be kept.
     fn shed(&mut self) {
-        let count = self.count.min(MOST_KEPT);
-        let surplus = count.saturating_sub(LEAST_KEPT);
-        let (gone, _) = self.bytes.split_at(surplus);
-        let Some(last) = gone.last() else {
+        let surplus = self.count.min(MOST_KEPT).saturating_sub(LEAST_KEPT);
+        let (gone, rest) = self.bytes.split_at_mut(surplus);
+        let (Some(last), Some(kept)) = (gone.last(), rest.get(..LEAST_KEPT)) else {
             return;
         };
         self.is_whole = *last == LINE_FEED;
         self.number = self.number.saturating_add(feeds_in(gone));
-        self.bytes.copy_within(surplus..count, 0);
-        self.count = count - surplus;
+        if let Some(front) = gone.get_mut(..LEAST_KEPT) {
+            front.copy_from_slice(kept);
+            self.count = LEAST_KEPT;
+        }
     }
 
     fn append(&mut self, part: &[u8]) {
@@ -73,10 +89,10 @@ impl Window {
             self.shed();
         }
         let (_, room) = self.bytes.split_at_mut(self.count.min(MOST_KEPT));
-        for (place, byte) in room.iter_mut().zip(part) {
-            *place = *byte;
+        if let Some(place) = room.get_mut(..part.len()) {
+            place.copy_from_slice(part);
+            self.count += part.len();
         }
-        self.count = self.count.saturating_add(part.len()).min(MOST_KEPT);
     }
 
     /// Adds what came.

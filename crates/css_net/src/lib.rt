@@ -22,6 +22,6 @@ mod sockets;
 mod upgrades;
 mod watch;
 
-pub use css_devices::{ChildSpawner, StdSink, StdSource};
+pub use css_devices::{ChildSpawner, PatientWriter, StdSink, StdSource, take_standard_numbers};
 pub use net_outside::{NetOutside, NetRuntime};
 pub use seen::Seen;

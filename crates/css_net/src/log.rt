@@ -3,6 +3,7 @@
 use crate::answers::DialFault;
 use crate::names::words_of;
 use crate::session::End;
+use css_devices::errors_take_line;
 use css_num::Text;
 use css_outside::{Address, Failure, Kind, OutFault};
 use std::env::Env;
@@ -12,6 +13,8 @@ use tungstenite::CloseCode;
 
 /// How many lines a run writes at most, whatever its peers do.
 const MOST_LINES: u32 = 10_000;
+/// How many characters of a host a line has at most. So a line is short enough for a pipe or a terminal to take whole.
+const MOST_OF_HOST: usize = 100;
 
 /// Something that the edge did.
 #[derive(Clone, Copy)]
@@ -32,9 +35,13 @@ pub(crate) enum Event<'a> {
     Closed(u32, End),
 }
 
-/// The characters of a host.
+/// The characters of a host, or the first of many.
 fn shown(host: &Text) -> &str {
-    words_of(host).unwrap_or("?")
+    let host = words_of(host).unwrap_or("?");
+    match host.char_indices().nth(MOST_OF_HOST) {
+        Some((end, _)) => host.get(..end).unwrap_or(host),
+        None => host,
+    }
 }
 
 fn name_of(kind: Kind) -> &'static str {
@@ -155,10 +162,26 @@ impl fmt::Display for Event<'_> {
     }
 }
 
-/// The lines that may still be written: none where nobody asked for them.
+/// How many lines were dropped before one that is written.
+#[derive(Clone, Copy)]
+struct Dropped(u64);
+
+impl fmt::Display for Dropped {
+    fn fmt<W: fmt::Write>(&self, f: &mut fmt::Formatter<W>) -> fmt::Result {
+        match self.0 {
+            0 => Ok(()),
+            count => write!(f, "{count} lines were dropped; "),
+        }
+    }
+}
+
+/// What was asked of the log.
 #[derive(Clone, Copy)]
 pub(crate) struct Log {
+    /// How many lines may still be written: none where nobody asked for them.
     left: u32,
+    /// How many lines were dropped since the last one that was written.
+    dropped: u64,
 }
 
 impl Log {
@@ -168,15 +191,23 @@ impl Log {
         let is_wanted = matches!(rt.var("CSS_LOG", &mut value), Ok(1)) && value[0] == b'1';
         Log {
             left: if is_wanted { MOST_LINES } else { 0 },
+            dropped: 0,
         }
     }
 
-    /// Writes a line on something that was done. One that can't be written is left out.
+    /// Writes a line on something that was done. It is dropped where it would have to wait for whoever reads it. One
+    /// that can't be written is left out.
     pub(crate) fn write<R: Eprint>(&mut self, rt: &R, event: Event<'_>) {
         if self.left == 0 {
             return;
         }
+        if !errors_take_line() {
+            self.dropped = self.dropped.saturating_add(1);
+            return;
+        }
+        let dropped = Dropped(self.dropped);
+        let _ = eprintln!(rt; "css: log: {dropped}{event}");
         self.left -= 1;
-        let _ = eprintln!(rt; "css: log: {event}");
+        self.dropped = 0;
     }
 }
