@@ -125,6 +125,7 @@ class Visit:
         self.number, self.ended, self.session = number, False, None
         self.dials, self.states, self.control = {}, [], None
         self.answers, self.promised, self.refused, self.disagrees = [], {}, None, False
+        self.closed = False  # Whether a report said that CSS-TS is closed.
 
     def forget(self):
         self.answers, self.promised, self.refused = [], {}, None
@@ -144,6 +145,8 @@ class Visit:
         if self.control is None:
             second = "" if self.says("tsUrl") else "no tsUrl"
             return "NoTimestamp", first or second or ("no text came" if self.is_open("TS") else "TS isn't open")
+        if self.closed:
+            return "SessionClosed", ""
         if isinstance(self.control, str):
             return f"Unreadable {self.control}", ""
         return ("Unavailable", "") if self.control["contentTime"] is None else None
@@ -245,6 +248,8 @@ class Story:
         reading = int(said["reading"])
         in_order = said["number"] == self.number and (not self.reports or reading > self.reports[-1][0])
         self.expect("reports", in_order and reading >= self.begun + self.number * self.every, said)
+        if said.get("cause") == "SessionClosed":  # No line tells it before.
+            visit.closed = any(self.visits[-1] < end < reading for end in self.tv.ts_ends)
         cause = visit.cause()
         known = "ticks" in said
         if known and cause is None:
