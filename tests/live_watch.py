@@ -11,6 +11,7 @@ and each line is right by the lines before it and by what the television said. B
 what is true at a reading is known to the nanosecond. Each check prints a line. The exit status is 1 where one failed.
 """
 import collections
+import json
 import os
 import re
 import subprocess
@@ -30,6 +31,7 @@ from watch_lines import Story, read
 PORT = ports()
 SECONDS, ASK, REPORT = 120, 100_000_000, 200_000_000
 PATIENCE = 10  # Only what hangs takes so many seconds; on a machine with nothing else to do it is under one.
+PAUSE = 4_000_000  # So long a turn of the companion takes at least, where no datagram comes.
 check = Checks()
 
 
@@ -393,9 +395,31 @@ def descriptors(check, program, port):
     tv.end()
 
 
+def leaves(check, program, port, wanted=6):
+    """A set closes CSS-TS, and says half a turn later where it is now. Where the machine was too busy for that, it is
+    tried again."""
+    tv, told, tries = Set(port), [], 0
+    child = companion(program, port, "--seconds", "120", "--ask-every", str(ASK), "--report-every", str(REPORT),
+                      command="watch")
+    lines = Lines(child)
+    wait_for_ticks(lines, 0, time.monotonic())
+    while len(told) < wanted and tries < 18 and child.poll() is None:
+        tries, ends, before = tries + 1, lines.ends, len(lines.kept)
+        took = tv.leave_ts(PAUSE / SECOND / 2)
+        wait_for_ticks(lines, ends + 1, time.monotonic())
+        if took < PAUSE:
+            said = [json.loads(line) for _, line in lines.kept[before:]]
+            told.append([line["why"] for line in said if line["event"] == "end"])
+    stop(child)
+    tv.end()
+    check("a set that closes CSS-TS and then moves tsUrl costs one visit",
+          len(told) >= wanted / 2 and all(whys == ["moved tsUrl"] for whys in told), (told, f"{tries} times"))
+
+
 def statuses(program):
     Beside([(usages, program), (nobody, program), (no_interval, program, PORT + 20),
-            (shut_output, program, PORT + 30), (descriptors, program, PORT + 70)]).tell(check)
+            (shut_output, program, PORT + 30), (descriptors, program, PORT + 70),
+            (leaves, program, PORT + 80)]).tell(check)
 
 
 # ---- what it costs

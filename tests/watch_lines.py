@@ -71,13 +71,12 @@ COUNT = whole(1, 2**53)
 TOLD = dict.fromkeys(STATE, text_or_null) | {
     "timelines": lambda value: value is None or isinstance(value, list) and all(map(TIMELINES, value))}
 CONTROL = members(contentTime=signed, timelineSpeedMultiplier=whole(-64, 64), wallClockTime=digits)
-NO_CONTROL = members(contentTime=lambda value: value is None, timelineSpeedMultiplier=lambda value: value is None,
-                     wallClockTime=lambda value: value == "0")
+NO_CONTROL = dict.fromkeys(("contentTime", "timelineSpeedMultiplier", "wallClockTime"))
 FORMS = {
     "visit": [{"number": COUNT, "reading": digits}],
     "dial": [{"outcome": words("open|failed"), "service": words("|".join(SERVICES))}],
     "state": [{"state": members(**TOLD)}],
-    "control": [{"control": lambda value: CONTROL(value) or NO_CONTROL(value)}, {"fault": words(UNREAD)}],
+    "control": [{"control": lambda value: CONTROL(value) or value == NO_CONTROL}, {"fault": words(UNREAD)}],
     "answer": [{"error": whole(0, 25_600_000), "landed": digits, "originate": digits, "precision": digits,
                 "receive": digits, "transmit": digits, "type": whole(1, 3), "width": digits}],
     "refused": [{"fault": words(REFUSED), "landed": digits}],
@@ -126,6 +125,7 @@ class Visit:
         self.number, self.ended, self.session = number, False, None
         self.dials, self.states, self.control = {}, [], None
         self.answers, self.promised, self.refused, self.disagrees = [], {}, None, False
+        self.closed = False  # Whether a report said that CSS-TS is closed.
 
     def forget(self):
         self.answers, self.promised, self.refused = [], {}, None
@@ -145,6 +145,8 @@ class Visit:
         if self.control is None:
             second = "" if self.says("tsUrl") else "no tsUrl"
             return "NoTimestamp", first or second or ("no text came" if self.is_open("TS") else "TS isn't open")
+        if self.closed:
+            return "SessionClosed", ""
         if isinstance(self.control, str):
             return f"Unreadable {self.control}", ""
         return ("Unavailable", "") if self.control["contentTime"] is None else None
@@ -207,8 +209,9 @@ class Story:
 
     def on_control(self, visit, said):
         visit.control = said.get("control") or said["fault"]
-        self.expect("controls", visit.is_open("TS")
-                    and any(visit.control == (fault or text) for _, text, fault in self.tv.controls), said)
+        self.expect("controls", visit.is_open("TS") and any(
+            visit.control == (fault or (text if text["contentTime"] else NO_CONTROL))
+            for _, text, fault in self.tv.controls), said)
 
     def on_answer(self, visit, said):
         t1, t2, t3, landed = (int(said[name]) for name in ("originate", "receive", "transmit", "landed"))
@@ -245,6 +248,8 @@ class Story:
         reading = int(said["reading"])
         in_order = said["number"] == self.number and (not self.reports or reading > self.reports[-1][0])
         self.expect("reports", in_order and reading >= self.begun + self.number * self.every, said)
+        if said.get("cause") == "SessionClosed":  # No line tells it before.
+            visit.closed = any(self.visits[-1] < end < reading for end in self.tv.ts_ends)
         cause = visit.cause()
         known = "ticks" in said
         if known and cause is None:

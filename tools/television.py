@@ -120,6 +120,7 @@ class Set(Television):
         self.controls, self.sessions, self.setups, self.sent = [], [], [], set()
         self.peers, self.sender, self.request, self.senders = {"CII": [], "TS": []}, None, None, {}
         self.listeners, self.open, self.hung_up, self.ends = [], {}, set(), []
+        self.ts_ends = []  # When it ended its sessions of CSS-TS.
         self.show(time.monotonic_ns(), 900_000, 1)
         self.controls.append((0, self.control, None))
         self.clock = WallClock(self, port)
@@ -245,6 +246,8 @@ class Set(Television):
         with self.lock:
             peers, self.peers[kind] = self.peers[kind], []
             self.hung_up.update(peers)
+            if kind == "TS":
+                self.ts_ends.append(time.monotonic_ns())
         for peer in peers:
             try:
                 if how == "closed":
@@ -341,6 +344,22 @@ class Set(Television):
         self.listen("TS", self.another_port())
         self.update()
         silence(before)
+
+    def leave_ts(self, later):
+        """Closes CSS-TS, and says so many seconds later where it is now. No answer comes meanwhile. How long it took,
+        in nanoseconds."""
+        before, self.mute, next_one = self.open["TS"], True, Listener(self.serve_ts, self.another_port())
+        self.listeners.append(("TS", next_one))
+        time.sleep(0.02)
+        begun = time.monotonic_ns()
+        self.hang_up("TS")
+        time.sleep(later)
+        self.open["TS"] = next_one
+        self.update()
+        took = time.monotonic_ns() - begun
+        self.mute = False
+        silence(before)
+        return took
 
     def switch_off(self, how="cut"):
         for kind in ("CII", "TS"):
