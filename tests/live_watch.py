@@ -23,7 +23,7 @@ from live_dials import fails
 from live_edge import Beside, closed_port, companion, processor_times, stop
 from live_peer import TIMELINE
 from live_words import told_by
-from page_tv import SECOND
+from page_tv import SECOND, SLOW_RATE
 from watch_lines import Story, read
 from watch_tv import UNAVAILABLE, Set
 
@@ -153,7 +153,8 @@ EVENTS = [
     Event("another one, with CSS-CII closed", "closed CII", 1, 1, hang_up("CII", programme=True)),
     Event("another one, with both cut", CLOSED, 1, 1, hang_up("TS", "CII", how="cut", programme=True)),
     Event("another one, with both reset", CLOSED, 1, 1, hang_up("CII", "TS", how="reset", programme=True)),
-    Event("another one, with the sessions open", "", 0, 0, lambda tv: tv.programme()),
+    Event("another one at another rate, with the sessions open", "", 0, 0, lambda tv: tv.programme(SLOW_RATE)),
+    Event("one at the old rate again", "", 0, 0, lambda tv: tv.programme()),
     Event("a pause", "", 0, 0, lambda tv: tv.go_on(speed=0)),
     Event("a seek", "", 0, 0, lambda tv: tv.go_on(90_000_000)),
     Event("twice the speed", "", 0, 0, lambda tv: tv.go_on(speed=2)),

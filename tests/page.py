@@ -86,10 +86,10 @@ def live(browser, source, port):
     while feeder.is_alive():
         moment = browser.seen()
         seen.append(moment)
-        _, control = due(feeder.lines[:moment["lines"]])
+        _, control, rate = due(feeder.lines[:moment["lines"]])
         if moment["now"] and control:
             reading, _, _, low, high = map(int, moment["now"].split())
-            truth = source.truth(reading, control)
+            truth = source.truth(reading, control, rate)
             inside.append(truth is None or low <= truth <= high)
         time.sleep(0.1)
     moments(seen, feeder.lines)
@@ -108,7 +108,7 @@ def moments(seen, lines):
     check("each position is that of the formula", not wrong, wrong[:2] or f"{len(seen)} moments")
     ran = {}
     for moment in seen:
-        report, _ = due(lines[:moment["lines"]])
+        report, _, _ = due(lines[:moment["lines"]])
         if report and moment["now"]:
             ran.setdefault(report["number"], set()).add(moment["now"].split()[0])
     check("it runs on between reports", sum(len(readings) > 1 for readings in ran.values()) > 5)

@@ -9,7 +9,7 @@ import time
 
 from live_edge import FAULTS, Listener, end_of, greet, state
 from live_peer import CLOSE, frame, nanos, stamp
-from page_tv import ERROR, SECOND, Television
+from page_tv import ERROR, RATE, SECOND, SELECTOR, Television
 
 HOST = "127.0.0.1"
 PRECISION_BYTE = 0xEC  # 2^-20 s
@@ -160,6 +160,7 @@ class Set(Television):
 
     def state(self):
         told = state(self.clock.port, self.open["TS"].port)
+        told["timelines"] = [{"timelineProperties": self.rate, "timelineSelector": SELECTOR}]
         return {**told, "contentId": f'dvb://233a.1004.{1043 + self.channel} "é"', **self.instead}
 
     def serve_cii(self, peer):
@@ -278,10 +279,10 @@ class Set(Television):
 
     # ---- what happens to a set
 
-    def programme(self):
-        """Another programme, whose timeline begins anew."""
+    def programme(self, rate=RATE):
+        """Another programme, whose timeline begins anew and has this rate."""
         with self.lock:
-            self.channel += 1
+            self.channel, self.rate = self.channel + 1, rate
             self.go_on(self.random.randrange(1 << 40), 1)
             self.update()
 
