@@ -226,7 +226,7 @@ def main(words):
         saved(browser, PORT + 2)
         streams(check, browser, PORT + 3)
         if options.picture:
-            take_picture(browser, PORT + 7, options.picture)
+            take_picture(browser, PORT + 9, options.picture)
         elsewhere = [url for url in browser.asked if not re.match(rf"http://127\.0\.0\.1:{PORT // 100}\d\d/", url)]
         check("nothing is asked for elsewhere", not elsewhere, elsewhere or f"{len(browser.asked)} requests")
         check("no script failed", not browser.faults, browser.faults or "")

@@ -105,7 +105,7 @@ SCRIPT = f"""\
 0 programme dvb://233a.1004.1044
 0 timeline 1 urn:dvb:css:timeline:pts 1 90000 900000
 0 programme dvb://233a.1004.1045
-0 timeline 2 urn:dvb:css:timeline:pts 1 90000 324000000
+0 timeline 2 urn:dvb:css:timeline:pts 1 1000 3600000
 0 change 1
 {PAUSE * SECOND} speed 0
 {RESUME * SECOND} speed 1
