@@ -3,9 +3,9 @@
 //
 //     css watch --cii URL | examples/carry.mjs [AFTER [SELECTOR]]
 //
-// For each report with ticks it prints both ticks, and then those of AFTER nanoseconds later, or of this moment where
-// AFTER isn't given. The programme may change before the next report: so for each `control` and `state` line it prints
-// anew where the television is then. SELECTOR is that of the watch. What may pass 2^53 is a BigInt.
+// For each report with ticks it prints both ticks, and then those of AFTER nanoseconds later; without AFTER, or with "",
+// those of this moment. The programme may change before the next report: so for each `control` and `state` line it
+// prints anew where the television is then. SELECTOR is that of the watch. What may pass 2^53 is a BigInt.
 import { createInterface } from "node:readline";
 
 const LOCAL_ERROR = 128_000n, LOCAL_PRECISION = 1000n; // Those of the watch: its --local-error and --local-precision.

@@ -3,8 +3,8 @@
 
     css watch --cii URL | examples/carry.py [AFTER [SELECTOR]]
 
-For each report with ticks it prints both ticks, and then those of AFTER nanoseconds later, or of this moment where
-AFTER isn't given. The programme may change before the next report: so for each `control` and `state` line it prints
+For each report with ticks it prints both ticks, and then those of AFTER nanoseconds later; without AFTER, or with "",
+those of this moment. The programme may change before the next report: so for each `control` and `state` line it prints
 anew where the television is then. SELECTOR is that of the watch.
 """
 import json
@@ -63,12 +63,12 @@ class Television:
 
 
 def main(words):
-    television = Television(*words[1:])
+    after, television = words[0] if words else "", Television(*words[1:])
     for line in map(json.loads, sys.stdin):
         television.take(line)
         report = television.report
         if report and line["event"] in ("report", "control", "state"):
-            reading = int(report["reading"]) + int(words[0]) if words else time.monotonic_ns()
+            reading = int(report["reading"]) + int(after) if after else time.monotonic_ns()
             told = ["ticks", *line["ticks"]] if line is report else [line["event"]]
             print(report["number"], *told, "then", *television.position(reading) or ["unknown"], flush=True)
 
