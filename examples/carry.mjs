@@ -3,8 +3,8 @@
 //
 //     css watch --cii URL | examples/carry.mjs [AFTER [SELECTOR]]
 //
-// For each report with ticks it prints both ticks, and then those of AFTER nanoseconds later; without AFTER, or with "",
-// those of this moment. The programme may change before the next report: so for each `control` and `state` line it
+// For each report with ticks it prints both ticks, and then those of AFTER nanoseconds later; without AFTER, or with
+// "", those of this moment. The programme may change before the next report: so for each `control` and `state` line it
 // prints anew where the television is then. SELECTOR is that of the watch. What may pass 2^53 is a BigInt.
 import { createInterface } from "node:readline";
 
