@@ -24,7 +24,7 @@ from live_edge import Beside, companion, processor_times, stop, wait_for
 from live_peer import TIMELINE
 from live_words import told_by
 from own_network import alone, refused_dials, why_not
-from page_tv import SECOND
+from page_tv import SECOND, SLOW_RATE
 from television import UNAVAILABLE, Set
 from watch_lines import Story, read
 
@@ -146,7 +146,8 @@ EVENTS = [
     Event("another one, with CSS-CII closed", "closed CII", 1, 1, hang_up("CII", programme=True)),
     Event("another one, with both cut", CLOSED, 1, 1, hang_up("TS", "CII", how="cut", programme=True)),
     Event("another one, with both reset", CLOSED, 1, 1, hang_up("CII", "TS", how="reset", programme=True)),
-    Event("another one, with the sessions open", "", 0, 0, lambda tv: tv.programme()),
+    Event("another one at another rate, with the sessions open", "", 0, 0, lambda tv: tv.programme(SLOW_RATE)),
+    Event("one at the old rate again", "", 0, 0, lambda tv: tv.programme()),
     Event("a pause", "", 0, 0, lambda tv: tv.go_on(speed=0)),
     Event("a seek", "", 0, 0, lambda tv: tv.go_on(90_000_000)),
     Event("twice the speed", "", 0, 0, lambda tv: tv.go_on(speed=2)),

@@ -81,10 +81,10 @@ def live(browser, source, port):
     while feeder.is_alive():
         moment = browser.seen()
         seen.append(moment)
-        _, control = due(feeder.lines[:moment["lines"]])
+        _, control, rate = due(feeder.lines[:moment["lines"]])
         if moment["now"] and control:
             reading, _, _, low, high = map(int, moment["now"].split())
-            truth = source.truth(reading, control)
+            truth = source.truth(reading, control, rate)
             inside.append(truth is None or low <= truth <= high)
         time.sleep(0.1)
     moments(seen, feeder.lines)
@@ -103,7 +103,7 @@ def moments(seen, lines):
     check("each position is that of the formula", not wrong, wrong[:2] or f"{len(seen)} moments")
     ran = set()
     for moment in seen:
-        report, _ = due(lines[:moment["lines"]])
+        report, _, _ = due(lines[:moment["lines"]])
         if report and moment["now"]:
             ran.add(moment["now"].split()[0] != report["reading"])
     check("it runs on after a report", True in ran)
@@ -226,7 +226,7 @@ def main(words):
         saved(browser, PORT + 2)
         streams(check, browser, PORT + 3)
         if options.picture:
-            take_picture(browser, PORT + 7, options.picture)
+            take_picture(browser, PORT + 9, options.picture)
         elsewhere = [url for url in browser.asked if not re.match(rf"http://127\.0\.0\.1:{PORT // 100}\d\d/", url)]
         check("nothing is asked for elsewhere", not elsewhere, elsewhere or f"{len(browser.asked)} requests")
         check("no script failed", not browser.faults, browser.faults or "")

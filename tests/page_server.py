@@ -159,7 +159,8 @@ def replayed(check, port):
     with tempfile.NamedTemporaryFile("w", suffix=".lines") as file:
         file.write("\n".join(lines))
         file.flush()
-        page = Page(port, ["--replay", file.name, "--local-error", "5", "--local-precision", "0"])
+        page = Page(port, ["--replay", file.name, "--local-error", "5", "--local-precision", "0",
+                           "--selector", 'urn:"x"&1'])
         conn, times = asked(port, "GET /lines HTTP/1.1"), []
         told = events(conn, 60, lambda found: times.append((time.monotonic(), len(found))) or (
             found and '"ended": true' in found[-1][2]))
@@ -169,6 +170,7 @@ def replayed(check, port):
           f"{lasted:.1f} s")
     words = all_of(asked(port, "GET / HTTP/1.1"))
     check("the page knows the local error and precision", b'data-local-error="5" data-local-precision="0"' in words)
+    check("and the selector", b'data-selector="urn:&quot;x&quot;&amp;1"' in words)
     page.end()
 
 

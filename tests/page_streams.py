@@ -3,9 +3,9 @@ import json
 import time
 
 from page_browser import DESK
-from page_due import right_position
+from page_due import position, right_position
 from page_server import Page
-from page_tv import BEGIN, SECOND, Evening
+from page_tv import BEGIN, SECOND, SLOW_RATE, Evening
 
 
 def many(check, browser, port):
@@ -112,7 +112,30 @@ def odd(check, browser, port):
     page.end()
 
 
+def selected(check, browser, port):
+    """A watch with another selector: its position goes by the rate of this timeline, while the state lists it."""
+    lines = [json.loads(line) for _, line in Evening([], 4).lines()]
+    (state,) = [line for line in lines if line["event"] == "state"]
+    (control,) = [line["control"] for line in lines if line["event"] == "control"]
+    timeline = state["state"]["timelines"][0]
+    timeline["timelineSelector"] = "urn:x:1"
+    page = Page(port, ["--selector", "urn:x:1"])
+    browser.open(page.url)
+    page.feed(*map(json.dumps, lines), json.dumps({**state, "state": {**state["state"], "timelines": None}}))
+    words = "the state lists no timeline with the wanted selector"
+    lost = browser.until(f"document.getElementById('words').textContent === '{words}'")
+    check("a state without the timeline ends the position", lost and browser.text("position") == "not known")
+    timeline["timelineProperties"] = SLOW_RATE
+    page.feed(json.dumps(state))
+    browser.until("position(readingNow()) !== null")
+    time.sleep(1)
+    reading, *shown = map(int, browser.seen()["now"].split() or [0])
+    report = [line for line in lines if "ticks" in line][-1]
+    check("and another rate goes on with it", reading and shown == position(report, control, SLOW_RATE, reading), shown)
+    page.end()
+
+
 def streams(check, browser, port):
     """All of these checks."""
-    for at, each in enumerate((many, long_ago, cut, odd)):
+    for at, each in enumerate((many, long_ago, cut, odd, selected)):
         each(check, browser, port + at)

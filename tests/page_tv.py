@@ -11,15 +11,17 @@ import random
 import sys
 
 sys.path.insert(0, str(pathlib.Path(__file__).resolve().parent.parent / "tools"))
-from television import ERROR, RATE, SECOND, Television, tick_at  # noqa: E402 (the folder comes first)
+from peer import TIMELINE as SELECTOR  # noqa: E402 (the folder comes first)
+from television import ERROR, RATE, SECOND, Television, tick_at  # noqa: E402
 
 TURN, F = 10**7, 256_000_000
 LOCAL_ERROR, LOCAL_PRECISION = 128_000, 1000
 PRECISION_NS = 954  # It is 2^-20 s.
 BEGIN = 98_765_432_109_876_543  # The first reading: beyond 2^53, so that no page may read it as a number.
+SLOW_RATE = {"unitsPerSecond": 1000, "unitsPerTick": 1}
 
-EVENING = [(8, "pause"), (11, "resume"), (14, "channel"), (18, "off"), (28, "on"), (30, "tell"), (33, "garble"),
-           (34.5, "mend"), (36, "stray"), (38, "impossible"), (40, "set clock"), (43.5, "sleep")]
+EVENING = [(8, "pause"), (11, "resume"), (12.4, "news"), (14, "channel"), (18, "off"), (28, "on"), (30, "tell"),
+           (33, "garble"), (34.5, "mend"), (36, "stray"), (38, "impossible"), (40, "set clock"), (43.5, "sleep")]
 
 
 def span(answer, reading):
@@ -35,6 +37,12 @@ def carried(wall, error, past):
     low = (F - error) * (past - 2 * LOCAL_PRECISION - 1) // (F + LOCAL_ERROR)
     high = -((F + error) * -(past + 2 * LOCAL_PRECISION + 1) // (F - LOCAL_ERROR))
     return wall[0] - 1 + low, wall[1] + 1 + high
+
+
+def rate_in(timelines):
+    """The rate of the timeline, where a state has these: without it there is the one of presentation time stamps."""
+    told = [timeline["timelineProperties"] for timeline in timelines or [] if timeline["timelineSelector"] == SELECTOR]
+    return [*told, RATE][0]
 
 
 class Evening:
@@ -150,8 +158,9 @@ class Evening:
             return
         reading = BEGIN + self.time
         wall = min((span(answer, reading) for answer in self.answers), key=lambda ends: ends[1] - ends[0])
-        ticks = sorted(tick_at(end, self.control, RATE) for end in wall)
-        self.say("report", error=ERROR, rate=RATE, speed=self.control["timelineSpeedMultiplier"],
+        rate = rate_in(self.state["timelines"])
+        ticks = sorted(tick_at(end, self.control, rate) for end in wall)
+        self.say("report", error=ERROR, rate=rate, speed=self.control["timelineSpeedMultiplier"],
                  ticks=[str(tick) for tick in ticks], wall=[str(end) for end in wall], **members)
 
     def cause(self):
@@ -180,8 +189,14 @@ class Evening:
         self.tv.show(self.time, self.tv.tick(self.time), 1)
         self.texts.append("TS")
 
+    def do_news(self):
+        """Another programme, whose timeline has another rate, while both sessions stay open."""
+        self.tv.channel, self.tv.rate = self.tv.channel + 1, SLOW_RATE
+        self.tv.show(self.time, 300_000, 1)
+        self.texts += ["CII", "TS"]
+
     def do_channel(self):
-        self.tv.channel += 1
+        self.tv.channel, self.tv.rate = self.tv.channel + 1, RATE
         self.tv.show(self.time, 324_000_000, 1)
         self.texts += ["CII", "closed TS"]
 

@@ -2,9 +2,14 @@
 is known. tests/live_watch.py is made of it."""
 import collections
 import json
+import pathlib
 import re
+import sys
 
-from page_tv import ERROR, F, LOCAL_ERROR, LOCAL_PRECISION, PRECISION_NS, RATE, carried, span, tick_at
+from page_tv import ERROR, F, LOCAL_ERROR, LOCAL_PRECISION, PRECISION_NS, rate_in, span, tick_at
+
+sys.path.append(str(pathlib.Path(__file__).resolve().parent.parent / "examples"))
+from carry import Television as Carried
 
 LAG = 5_000_000_000  # Within this time a control timestamp that was said has come, also on a busy machine.
 SERVICES = ("CII", "WC", "TS")
@@ -29,7 +34,7 @@ CHECKS = {
     "causes": "each cause and detail is the first that holds",
     "intervals": "each interval comes from the narrowest answer and the last control timestamp",
     "truth": "each interval contains the truth",
-    "carried": "each interval contains the truth when it is carried on",
+    "carried": "each interval contains the truth when examples/carry.py carries it on",
 }
 
 
@@ -136,6 +141,10 @@ class Visit:
     def says(self, name):
         return bool(self.states) and self.states[-1][name] is not None
 
+    def rate(self):
+        """The rate of the timeline, by the last state."""
+        return rate_in(self.states[-1]["timelines"] if self.states else None)
+
     def cause(self):
         """The cause of a report that is due now, and the pattern of its detail; none where it has ticks."""
         first = "" if self.is_open("CII") else "CII isn't open"
@@ -160,6 +169,7 @@ class Story:
         self.wrong, self.count = collections.defaultdict(list), collections.Counter()
         self.visit, self.begun, self.last, self.number, self.sessions = None, None, "", 0, 0
         self.visits, self.ends, self.reports, self.refused = [], [], [], []
+        self.carried = Carried()
 
     def expect(self, what, holds, line):
         self.count[what] += 1
@@ -179,6 +189,9 @@ class Story:
         if visit and visit.disagrees and not visit.ended and event != "end":
             self.expect("disagree", False, said)
         getattr(self, "on_" + event)(visit, said)
+        self.carried.take(said)
+        if event in ("report", "control", "state"):
+            self.carry_on(self.visit, said)
         self.last = event
 
     def tell(self, check):
@@ -271,21 +284,27 @@ class Story:
         return any(answer[0] < jump <= reading for jump, _ in self.tv.begins[1:] for answer in visit.answers)
 
     def known(self, visit, said, reading):
-        control, wall = visit.control, [int(end) for end in said["wall"]]
+        control, rate, wall = visit.control, visit.rate(), [int(end) for end in said["wall"]]
         ticks = [int(tick) for tick in said["ticks"]]
         best = min(visit.answers, key=lambda answer: scaled_width(answer, reading))
-        self.expect("intervals", tuple(wall) == span(best, reading) and said["error"] == ERROR and said["rate"] == RATE
+        self.expect("intervals", tuple(wall) == span(best, reading) and said["error"] == ERROR and said["rate"] == rate
                     and said["speed"] == control["timelineSpeedMultiplier"]
-                    and ticks == sorted(tick_at(end, control, RATE) for end in wall), said)
+                    and ticks == sorted(tick_at(end, control, rate) for end in wall), said)
         if self.is_exempt(visit, reading):
             return
         true = self.tv.wall(reading)
-        self.expect("truth", wall[0] <= true <= wall[1] and ticks[0] <= tick_at(true, control, RATE) <= ticks[1]
+        self.expect("truth", wall[0] <= true <= wall[1] and ticks[0] <= tick_at(true, control, rate) <= ticks[1]
                     and control in self.tv.said(reading - LAG, reading), said)
+
+    def carry_on(self, visit, said):
+        """The last report is carried on to later readings, by what the visit was told since."""
         for part in (1, 2, 3, 9):
-            later = reading + self.every * part // 3
-            if self.is_exempt(visit, later):
+            report = self.carried.report
+            later = int(report["reading"]) + self.every * part // 3 if report else 0
+            ticks = self.carried.position(later)
+            if ticks is None or self.is_exempt(visit, later):
                 continue
-            true, low, high = self.tv.wall(later), *carried(wall, said["error"], later - reading)
-            first, last = sorted(tick_at(end, control, RATE) for end in (low, high))
-            self.expect("carried", low <= true <= high and first <= tick_at(true, control, RATE) <= last, said)
+            low, high = self.carried.wall(later)
+            true = self.tv.wall(later)
+            holds = low <= true <= high and ticks[0] <= tick_at(true, visit.control, visit.rate()) <= ticks[1]
+            self.expect("carried", holds, said)

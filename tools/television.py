@@ -30,7 +30,7 @@ class Television:
     def __init__(self):
         self.begins = [(0, 1_764_403_200 * SECOND)]  # From when on the clock counts from where.
         self.on, self.told = True, True
-        self.channel, self.control = 1, None
+        self.channel, self.control, self.rate = 1, None, RATE
         self.show(0, 900_000, 1)
 
     def wall(self, time):
@@ -45,10 +45,10 @@ class Television:
                         "wallClockTime": str(self.wall(time))}
 
     def tick(self, time):
-        return tick_at(self.wall(time), self.control, RATE)
+        return tick_at(self.wall(time), self.control, self.rate)
 
     def state(self):
-        timelines = [{"timelineProperties": RATE, "timelineSelector": TIMELINE}]
+        timelines = [{"timelineProperties": self.rate, "timelineSelector": TIMELINE}]
         return {"contentId": f"dvb://233a.1004.{1043 + self.channel}", "contentIdStatus": "final", "mrsUrl": None,
                 "presentationStatus": "okay", "protocolVersion": "1.1", "teUrl": None, "timelines": timelines,
                 "tsUrl": f"ws://{TV}:6678/ts" if self.told else None,
@@ -199,6 +199,7 @@ class Set(Television):
 
     def state(self):
         told = state(self.clock.port, self.open["TS"].port)
+        told["timelines"] = [{"timelineProperties": self.rate, "timelineSelector": TIMELINE}]
         return {**told, "contentId": f'dvb://233a.1004.{1043 + self.channel} "é"', **self.instead}
 
     def serve_cii(self, peer):
@@ -319,10 +320,10 @@ class Set(Television):
 
     # ---- what happens to a set
 
-    def programme(self):
-        """Another programme, whose timeline begins anew."""
+    def programme(self, rate=RATE):
+        """Another programme, whose timeline begins anew and has this rate."""
         with self.lock:
-            self.channel += 1
+            self.channel, self.rate = self.channel + 1, rate
             self.go_on(self.random.randrange(1 << 40), 1)
             self.update()
 
