@@ -1,6 +1,6 @@
 -- Whether answers contradict each other at a reading.
-use Rattle.std.specs.Prelude.{ℕ, ◌≡◌, ◌↔◌, Bool, true, false, int_lt, [], ◌∷◌, All}
-use Rattle.css_model.specs.WallClock.{Answer, Local}
+use Rattle.std.specs.Prelude.{ℕ, ◌≡◌, ◌↔◌, Bool, true, false, int_lt, [], ◌∷◌, All, Result, Ok, Err, pos, ⊤}
+use Rattle.css_model.specs.WallClock.{Answer, Local, scaled_width}
 use Rattle.css_model.specs.World.{World, Errors, IsWorldFor, Reads}
 use Rattle.css_span.specs.Frontiers.{Answers}
 use Rattle.css_agree.specs.Agreements.{Contradict, DeclareInRange, IsTruthful}
@@ -11,6 +11,16 @@ abbrev pub disagree : Local → ℕ → Answers → Bool
 disagree own reading [] = false
 disagree own reading (first ∷ others) =
     int_lt (least_high own reading first others) (greatest_low own reading first others)
+
+-- whether an answer that was just accepted, if one was, contradicts those before it at its landing
+abbrev pub contradicts : {Refusal : Type 0} → Local → ℕ → Result Answer Refusal → Answers → Bool
+contradicts own reading (Ok answer) answers = disagree own reading (answer ∷ answers)
+contradicts own reading (Err refusal) answers = false
+
+-- an answer that was just accepted, if one was, is possible at its landing
+abbrev pub IsPossibleAt : {Refusal : Type 0} → Local → ℕ → Result Answer Refusal → Type 0
+IsPossibleAt own reading (Ok answer) = int_lt (scaled_width own answer reading) (pos 0) ≡ false
+IsPossibleAt own reading (Err refusal) = ⊤
 
 -- Answers disagree exactly where two of them contradict each other.
 abbrev pub DisagreementIsContradiction : Type 0

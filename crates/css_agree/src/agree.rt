@@ -72,6 +72,14 @@ impl Agree {
         Ok(())
     }
 
+    /// Forgets all answers, as where the companion slept.
+    pub fn forget(&mut self)
+        ensures value { self.new ≡ record self.old { bests = [] } }
+        ensures stands { StandsFor self.new [] }
+    {
+        self.kept.clear();
+    }
+
     /// What the answers say at a reading: the span from the greatest lower end of their spans at the reading to the
     /// least upper end. Where these are out of order, it names an answer that has the one and an answer that has the
     /// other. They may be the same answer at a reading before its landing.

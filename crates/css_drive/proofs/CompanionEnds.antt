@@ -240,25 +240,21 @@ module _ {config : DriveConfig} {before now : Shown} {saw : List Note → Type 0
 -- ---- reports
 -- what the companion reports is what is due
 pub reports_so : (config : DriveConfig) (companion : Companion) (history : History) (reading : ℕ) (report : Report)
-    → Knows config companion history
+    → Knows config.companion companion history
     → report ≡ report_after (own_of companion) companion.setup.selector history reading
     → report ≡ report_at config history reading
 reports_so config companion history reading report k e =
-    e ∙ ap (λ x. report_after x companion.setup.selector history reading) k.own
+    e ∙ ap (λ x. report_after x companion.setup.selector history reading) k.local
     ∙ ap (λ x. report_after config.companion.local x.selector history reading) k.setup
 
 -- ---- counts of failed dials
 pub early_dials : (before now : ℕ) (ended : Driven) → IsEarly ended → before ≤ now
     → CountsDialFaults before now ended
-early_dials before now (driven.Spent n) f e = absurd f
-early_dials before now (driven.Unreachable n) f e = absurd f
-early_dials before now _ f e = e
+early_dials before now ended f e = grind (arith, f, e)
 
 pub final_dials : (over : Option OutFault) (before now : ℕ) (ended : Driven) → CountsDialFaults before now ended
     → before ≤ now → CountsDialFaults before now (final_end over ended)
-final_dials None before now ended c le = c
-final_dials (Some (fault.Failed failure)) before now ended c le = le
-final_dials (Some fault.Memory) before now ended c le = le
+final_dials over before now ended c le = grind (arith, c, le)
 
 -- a run that ended where no dial of CSS-CII succeeded
 pub hung_dials : (before now reports : ℕ) (live : Live) (end ended : Driven) → before ≤ now

@@ -11,11 +11,11 @@ use Rattle.css_model.specs.History.{Address, Dialling, Dialled, History, Entry, 
 use Rattle.css_model.specs.History.{asking_at, request_by, landed_answer, sleeps, Each}
 use Rattle.css_outside.specs.Outsides.{with_entries, Counts, clock_entries, sleep_entries, heard_entries, wrote_entries}
 use Rattle.css_outside.specs.declared.fault.OutFault.{OutFault}
-use Rattle.css_outside.specs.declared.fault.OutFault.TheVariants as fault
 use Rattle.css_companion.specs.Meanings.{kind_of, is_ts, is_cii, state_of, cii_text, ts_text, opens_ts, closes_ts}
 use Rattle.css_companion.specs.Standing.{Companion}
+use Rattle.css_companion.specs.declared.config.CompanionConfig.{CompanionConfig}
 use Rattle.css_drive.specs.CompanionDue.{due, dial_to, place, from_cii, from_wc, from_ts, from_ask, from_take}
-use Rattle.css_drive.specs.CompanionDue.{from_ts_text, from_end, unless_refused, refusal_of, end_by}
+use Rattle.css_drive.specs.CompanionDue.{from_ts_text, from_end, unless_refused, refusal_of}
 use Rattle.css_drive.specs.CompanionStanding.{Shown, facts_of, KnowsPeers, Stands, Knows, Comes, Stops, IsFault}
 use Rattle.css_drive.specs.CompanionStanding.{IsEndBy, IsSo, Fails, Adds, HasDialled, dial_entries, GivesPlace}
 use Rattle.css_drive.specs.CompanionStanding.{asked_after, IsRefusal, HasRead, Goes, IsDue, TakesIn, from_text}
@@ -26,7 +26,7 @@ use Rattle.css_drive.specs.Ends.{MayEnd, IsNetFault, CountsNetFault}
 use Rattle.css_drive.specs.Notes.{Note, noted, dial_notes, standpoint, session_at, slept_notes, landing_notes}
 use Rattle.css_drive.specs.Notes.{heard_notes, wrote_notes}
 use Rattle.css_drive.specs.Stages.{At, DialsTold}
-use Rattle.css_drive.specs.Proper.{Due, Dial, MayAdd, More, Now, TakeDatagram, TakeText, SendText, Ends}
+use Rattle.css_drive.specs.Proper.{Due, Dial, MayAdd, More, Now, TakeDatagram, TakeText, SendText}
 use Rattle.css_drive.specs.declared.companion_live.Live.{Live}
 use Rattle.css_drive.specs.declared.config.DriveConfig.{DriveConfig}
 use Rattle.css_drive.specs.declared.driven.Driven.{Driven}
@@ -47,7 +47,6 @@ use Rattle.css_companion.specs.Aside.{IsAside}
 use Rattle.css_companion.proofs.Telling as telling
 use Rattle.css_model.specs.declared.Stamp.{Stamp}
 use Rattle.css_companion.specs.declared.fault.CompanionFault.{CompanionFault}
-use Rattle.css_companion.specs.declared.fault.CompanionFault.TheVariants as refused
 use Rattle.css_drive.specs.declared.session.Session.{Session}
 use Rattle.css_drive.specs.declared.session.Session.TheVariants as session
 
@@ -68,10 +67,7 @@ pub peers_later : (n m : ℕ) (history : History) → n ≤ m → KnowsPeers n h
 peers_later n m history le k = λ wanted peer e. (omega (arith, le, (k wanted peer e).0), (k wanted peer e).1)
 
 same_kind : (wanted k : Kind) → is_kind wanted k ≡ true → k ≡ wanted
-same_kind kind.Wc kind.Wc e = refl
-same_kind kind.Cii kind.Cii e = refl
-same_kind kind.Ts kind.Ts e = refl
-same_kind _ _ e = absurd (cc)
+same_kind wanted k e = grind (arith, e)
 
 peers_dialled : (n q : ℕ) (k : Kind) (to : Address) (history : History) → KnowsPeers n history → n < q
     → KnowsPeers q (Dialled k q ∷ Dialling k to ∷ history)
@@ -126,31 +122,18 @@ IsOwn driven.WriteFault = ⊥
 IsOwn _ = Unit {0}
 
 own_so : (over : Option OutFault) (ended : Driven) → IsOwn ended → IsSo over ended
-own_so over (driven.NetFault failure) own = absurd own
-own_so over driven.WriteFault own = absurd own
-own_so over _ own = tt
+own_so over ended own = grind (arith, own)
 
 pub own_quiet : (ended : Driven) → IsOwn ended → IsNetFault ended → ⊥
-own_quiet (driven.NetFault failure) own n = own
-own_quiet _ own n = n
+own_quiet ended own n = grind (arith, own, n)
 
 -- nothing was told, and it ends by a fault
 pub fault_ends : (d : Due) (ended : Driven) → IsFault ended → MayEnd d ended
-fault_ends d (driven.NetFault failure) f = tt
-fault_ends d driven.Memory f = tt
-fault_ends d _ f = absurd f
+fault_ends d ended f = grind (arith, f)
 
 -- a call that was not made or failed
 fails_end : (d : Due) (over : Option OutFault) (ended : Driven) → IsEndBy over ended → MayEnd d ended × IsSo over ended
-fails_end d None (driven.NetFault failure) f = (tt, refl)
-fails_end d None driven.Memory f = (tt, tt)
-fails_end d None _ f = absurd f
-fails_end d (Some (fault.Failed failure)) ended f =
-    let P : Driven → Type 0 = λ x. MayEnd d x × IsSo (Some (fault.Failed failure)) x in
-    let never : Some (fault.Failed failure) ≡ None → ⊥ = λ e. cc in
-    subst P (sym f) (tt, never)
-fails_end d (Some fault.Memory) ended f =
-    let P : Driven → Type 0 = λ x. MayEnd d x × IsSo (Some fault.Memory) x in subst P (sym f) (tt, tt)
+fails_end d over ended f = grind (arith, f)
 
 -- a `?` that ends the function
 pub at_err : {T E : Type 0} (P : T → Type 0) (Q : E → Type 0) (e : E) (r : Result T E) → IsErrAnd r (λ x. x ≡ e) → Q e
@@ -208,7 +191,7 @@ module _ {config : DriveConfig} {before now : Shown} {saw : List Note → Type 0
       (peers_dialled now.counts.peers q k to history s.peers t.peer.0)) after notes facts
 
   -- the run came to this history
-  pub comes : {companion : Companion} → Knows config companion history → (at : History → Type 0) → at history
+  pub comes : {companion : Companion} → Knows config.companion companion history → (at : History → Type 0) → at history
       → Comes config before now saw live companion at
   comes k at next = record { history = history; known = k; stands = s; next = next }
 
@@ -252,7 +235,7 @@ module _ {config : DriveConfig} {before now : Shown} {saw : List Note → Type 0
 
   -- and a `?` ends the function
   pub failed : {T : Type 0} (P : T → Type 0) (result : Result T Driven) → {companion : Companion}
-      → Knows config companion history → {next : Shown} {over : Option OutFault} {ended : Driven}
+      → Knows config.companion companion history → {next : Shown} {over : Option OutFault} {ended : Driven}
       → IsErrAnd result (λ x. x ≡ ended) → Fails now next over ended → (after : List Note → Type 0)
       → after (noted config history) → MatchResult result P (Stops config before next after over)
   failed P result k is f after notes = at_err P _ _ result is (stops_by_fault k.stands.client.lawful f notes)
@@ -263,11 +246,11 @@ infixl 10 ◌>=>◌
 pub ◌>=>◌ : {W : Type 0} {config : DriveConfig} {old mid : Shown} {saw after : W → List Note → Type 0}
     {live later : Live} {companion told : Companion} {when at : History → Type 0} {P : Shown → W → Type 0}
     → ((before : Shown) (started : W) (history : History) → Stands config before old (saw started) live history
-    → Knows config companion history → when history → Comes config before mid (after started) later told at)
+    → Knows config.companion companion history → when history → Comes config before mid (after started) later told at)
     → ((before : Shown) (started : W) (history : History) → Stands config before mid (after started) later history
-    → Knows config told history → at history → P before started)
+    → Knows config.companion told history → at history → P before started)
     → (before : Shown) (started : W) (history : History) → Stands config before old (saw started) live history
-    → Knows config companion history → when history → P before started
+    → Knows config.companion companion history → when history → P before started
 first >=> second = λ before started history s k w.
     let x = first before started history s k w in second before started x.history x.stands x.known x.next
 
@@ -276,9 +259,9 @@ pub leads_err : {W T : Type 0} {config : DriveConfig} {old now : Shown} {saw aft
     {live : Live} {companion : Companion} {when : History → Type 0} {over : Option OutFault} {ended : Driven}
     (P : Shown → W → T → Type 0) (result : Result T Driven) → IsErrAnd result (λ x. x ≡ ended)
     → ((before : Shown) (started : W) (history : History) → Stands config before old (saw started) live history
-    → Knows config companion history → when history → Stops config before now (after started) over ended)
+    → Knows config.companion companion history → when history → Stops config before now (after started) over ended)
     → (before : Shown) (started : W) (history : History) → Stands config before old (saw started) live history
-    → Knows config companion history → when history
+    → Knows config.companion companion history → when history
     → MatchResult result (P before started) (Stops config before now (after started) over)
 leads_err P result is step = λ before started history s k w.
     at_err _ _ _ result is (step before started history s k w)
@@ -307,11 +290,11 @@ lawful_plain entry history l asks sends =
     }
 
 -- an entry that tells a companion nothing
-pub knows_plain : {config : DriveConfig} {companion : Companion} (entry : Entry) {history : History}
-    → Knows config companion history → is_sleep entry ≡ false → asking_at entry ≡ None
+pub knows_plain : {own : CompanionConfig} {companion : Companion} (entry : Entry) {history : History}
+    → Knows own companion history → is_sleep entry ≡ false → asking_at entry ≡ None
     → request_by entry ≡ None → landed_answer entry history ≡ None → cii_text entry history ≡ None
     → ts_text entry history ≡ None → (opens_ts entry || closes_ts entry history) ≡ false
-    → Knows config companion (entry ∷ history)
+    → Knows own companion (entry ∷ history)
 knows_plain entry {history} k awake asks sends lands cii ts end =
     let aside : IsAside entry history = record {
       client = record { awake = awake; asks_none = asks; sends_none = sends; lands_none = lands };
@@ -319,16 +302,16 @@ knows_plain entry {history} k awake asks sends lands cii ts end =
       no_ts = ts;
       no_edge = end;
     } in
-    record { stands = telling.stands_aside _ _ entry k.stands aside; setup = k.setup; own = k.own }
+    record { stands = telling.stands_aside _ _ entry k.stands aside; setup = k.setup; local = k.local }
 
 -- nor does a dial that fails or begins, or a session that isn't one of CSS-TS
-pub knows_dialling : {config : DriveConfig} {companion : Companion} (k : Kind) (to : Address) {history : History}
-    → Knows config companion history → Knows config companion (Dialling k to ∷ history)
+pub knows_dialling : {own : CompanionConfig} {companion : Companion} (k : Kind) (to : Address) {history : History}
+    → Knows own companion history → Knows own companion (Dialling k to ∷ history)
 knows_dialling k to knows = knows_plain (Dialling k to) knows refl refl refl refl refl refl refl
 
-pub knows_tried : {config : DriveConfig} {companion : Companion} (k : Kind) (to : Address) (tried : Option ℕ)
-    {history : History} → IfSome tried (λ p. opens_ts (Dialled k p) ≡ false) → Knows config companion history
-    → Knows config companion (dial_entries k to tried ++ history)
+pub knows_tried : {own : CompanionConfig} {companion : Companion} (k : Kind) (to : Address) (tried : Option ℕ)
+    {history : History} → IfSome tried (λ p. opens_ts (Dialled k p) ≡ false) → Knows own companion history
+    → Knows own companion (dial_entries k to tried ++ history)
 knows_tried k to None other knows =
     knows_plain (NotDialled k) (knows_dialling k to knows) refl refl refl refl refl refl refl
 knows_tried k to (Some p) other knows =
@@ -507,30 +490,16 @@ heard session.Ts config p bytes history is = rw is
 -- a refused text ends the run so
 pub refusal_ends : (refusal : Option CompanionFault) (rest : Due) (ended : Driven) → IsRefusal refusal ended
     → MayEnd (unless_refused refusal rest) ended
-refusal_ends refusal rest driven.Memory r = tt
-refusal_ends None rest _ r = absurd r
-refusal_ends (Some f) rest _ r = subst (MayEnd (Ends (end_by f))) (sym r) (ends f)
-  where
-    ends : (f : CompanionFault) → MayEnd (Ends (end_by f)) (end_by f)
-    ends (refused.BadCii number reason) = refl
-    ends (refused.Moved property old new) = refl
-    ends refused.Memory = tt
+refusal_ends refusal rest ended r = grind (arith, r)
 
 pub refusal_own : (refusal : Option CompanionFault) (ended : Driven) → IsRefusal refusal ended → IsOwn ended
-refusal_own refusal driven.Memory r = tt
-refusal_own None _ r = absurd r
-refusal_own (Some f) _ r = subst IsOwn (sym r) (own f)
-  where
-    own : (f : CompanionFault) → IsOwn (end_by f)
-    own (refused.BadCii number reason) = tt
-    own (refused.Moved property old new) = tt
-    own refused.Memory = tt
+refusal_own refusal ended r = grind (arith, r)
 
 -- a text was taken in, or is refused and ends the run
 pub text_goes : {T : Type 0} {config : DriveConfig} {before now : Shown} {saw : List Note → Type 0} {live : Live}
     {p : ℕ} {bytes : List ℕ} {history : History} → Stands config before now saw live (Heard p bytes ∷ history)
     → IsLawful history → (which : Session) → kind_of p history ≡ Some (kind_for which) → (over : Option OutFault)
-    → (is : Companion) (result : Result T Driven) → TakesIn config which p bytes history is result
+    → (is : Companion) (result : Result T Driven) → TakesIn config.companion which p bytes history is result
     → Goes config before now saw over live is (λ _. IsDue config (after_text which)) result
 text_goes {config} {p = p} {bytes = bytes} {history = history} s lawful which k over is (Ok _) taken =
     comes s taken.1 _ (heard which config p bytes history k
@@ -583,7 +552,7 @@ module _ {config : DriveConfig} {before now : Shown} {saw : List Note → Type 0
 pub told_goes : {T : Type 0} {config : DriveConfig} {before now : Shown} {saw : List Note → Type 0} {live : Live}
     {history : History} → Stands config before now saw live history → IsLawful history → (over : Option OutFault)
     → (is : Companion) (at : T → History → Type 0) → ((value : T) → at value history) → (result : Result T Driven)
-    → OnOk result (Knows config is history) → IfErr result (λ ended. ended ≡ driven.Memory)
+    → OnOk result (Knows config.companion is history) → IfErr result (λ ended. ended ≡ driven.Memory)
     → Goes config before now saw over live is at result
 told_goes s lawful over is at next (Ok value) told memory = comes s told (at value) (next value)
 told_goes s lawful over is at next (Err ended) told memory = stops_by_memory s lawful over ended memory

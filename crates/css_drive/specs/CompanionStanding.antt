@@ -15,6 +15,7 @@ use Rattle.css_outside.specs.declared.calls.Wrote.{Wrote as Outcome}
 use Rattle.css_outside.specs.declared.calls.Wrote.TheVariants as outcome
 use Rattle.css_companion.specs.Meanings.{kind_of, is_cii}
 use Rattle.css_companion.specs.Standing.{Companion, StandsFor, own_of, wanted_by}
+use Rattle.css_companion.specs.declared.config.CompanionConfig.{CompanionConfig}
 use Rattle.css_address.specs.declared.fault.AddressFault.{AddressFault}
 use Rattle.css_cii.specs.declared.name.CiiName.{CiiName}
 use Rattle.css_companion.specs.declared.fault.CompanionFault.{CompanionFault}
@@ -98,16 +99,16 @@ pub record Stands (config : DriveConfig) (before now : Shown) (saw : List Note �
   pub saw_so : saw (noted config history)
 
 -- the companion is the configuration's, and stands for the history
-pub record Knows (config : DriveConfig) (companion : Companion) (history : History) : Type 0 where
+pub record Knows (own : CompanionConfig) (companion : Companion) (history : History) : Type 0 where
   pub stands : StandsFor companion history
-  pub setup : companion.setup ≡ wanted_by config.companion
-  pub own : own_of companion ≡ config.companion.local
+  pub setup : companion.setup ≡ wanted_by own
+  pub local : own_of companion ≡ own.local
 
 -- The run came to a history of this kind.
 pub record Comes (config : DriveConfig) (before now : Shown) (saw : List Note → Type 0) (live : Live)
     (companion : Companion) (at : History → Type 0) : Type 0 where
   pub history : History
-  pub known : Knows config companion history
+  pub known : Knows config.companion companion history
   pub stands : Stands config before now saw live history
   pub next : at history
 
@@ -148,7 +149,7 @@ abbrev pub LeadsFrom : {O W T : Type 0} → (O → Option History) → (O → Co
 LeadsFrom {O} {W} told counts saw over config old new when at result =
     (before : Shown) (started : W) (history : History)
     → Stands config before (shown_of told counts old) (saw started old.observer.now) old.live.now history
-    → Knows config old.companion.now history → when history
+    → Knows config.companion old.companion.now history → when history
     → Goes config before (shown_of told counts new) (saw started new.observer.now) (over new.observer.now) new.live.now
     new.companion.now at result
 
@@ -191,15 +192,6 @@ abbrev pub IsFault : Driven → Type 0
 IsFault (driven.NetFault failure) = ⊤
 IsFault driven.Memory = ⊤
 IsFault _ = ⊥
-
--- an end that comes in the midst of a turn
-abbrev pub IsCut : Driven → Type 0
-IsCut (driven.NetFault failure) = ⊤
-IsCut driven.Memory = ⊤
-IsCut (driven.BadCii text fault) = ⊤
-IsCut (driven.Moved property old new) = ⊤
-IsCut (driven.BadUrl property) = ⊤
-IsCut _ = ⊥
 
 -- an end that comes in a turn
 abbrev pub IsEarly : Driven → Type 0
@@ -270,8 +262,8 @@ pub record HasRead (old new : Shown) (before now : Live) (was is : Companion) (w
   pub last : new.counts.last ≡ clocked.reading
   pub below : clocked.reading < LIMIT
   pub floor : is.client.floor ≤ clocked.reading
-  pub known : (config : DriveConfig) (history : History) → Knows config was history
-      → Knows config is (sleep_entries clocked.slept ++ history)
+  pub known : (own : CompanionConfig) (history : History) → Knows own was history
+      → Knows own is (sleep_entries clocked.slept ++ history)
   pub only : now ≡ record before { asked = asked_after clocked.slept before.asked }
 
 -- what is open of a session once that of a peer is over
@@ -298,11 +290,11 @@ IsRefusal None ended = ⊥
 IsRefusal (Some fault) ended = ended ≡ end_by fault
 
 -- the companion took a text of a session in, or it is refused
-abbrev pub TakesIn : {T : Type 0} → DriveConfig → Session → ℕ → List ℕ → History → Companion → Result T Driven
+abbrev pub TakesIn : {T : Type 0} → CompanionConfig → Session → ℕ → List ℕ → History → Companion → Result T Driven
     → Type 0
-TakesIn config which peer text history is result =
+TakesIn own which peer text history is result =
     let refusal = refusal_of (if is_cii (Some (kind_for which)) then Some text else None) history in
-    MatchResult result (λ _. (refusal ≡ None) × Knows config is (Heard peer text ∷ history)) (IsRefusal refusal)
+    MatchResult result (λ _. (refusal ≡ None) × Knows own is (Heard peer text ∷ history)) (IsRefusal refusal)
 
 -- the run hangs up the sessions that are open, to end so
 pub record Hangs (config : DriveConfig) (before now : Shown) (saw : List Note → Type 0) (live : Live) (end : Driven)

@@ -15,3 +15,4 @@ pub mod TvDue
 pub mod TvRan
 pub mod TvTold
 pub mod TvStanding
+pub mod Visits

@@ -10,6 +10,7 @@ use Rattle.css_address.specs.declared.fault.AddressFault.{AddressFault}
 use Rattle.css_cii.specs.declared.name.CiiName.{CiiName}
 use Rattle.css_companion.specs.Meanings.{kind_of, is_cii}
 use Rattle.css_companion.specs.Standing.{Companion}
+use Rattle.css_companion.specs.declared.config.CompanionConfig.{CompanionConfig}
 use Rattle.css_companion.specs.declared.fault.CompanionFault.{CompanionFault}
 use Rattle.css_outside.specs.Outsides.{Counts, clock_entries, heard_entries}
 use Rattle.css_outside.specs.declared.calls.Clocked.{Clocked}
@@ -18,10 +19,9 @@ use Rattle.css_outside.specs.declared.calls.Heard.TheVariants as answer
 use Rattle.css_outside.specs.declared.fault.OutFault.{OutFault}
 use Rattle.css_drive.specs.CompanionDue.{refusal_of}
 use Rattle.css_drive.specs.CompanionStanding.{Shown, shown_of, Fails, Adds, HasDialled, HasRead, IsRefusal, Knows}
-use Rattle.css_drive.specs.CompanionStanding.{kind_for, without, GivesPlace, IsCut}
+use Rattle.css_drive.specs.CompanionStanding.{kind_for, without, GivesPlace}
 use Rattle.css_drive.specs.declared.companion_live.Live.{Live}
 use Rattle.css_drive.specs.declared.companion_live.Run.{Run}
-use Rattle.css_drive.specs.declared.config.DriveConfig.{DriveConfig}
 use Rattle.css_drive.specs.declared.driven.Driven.{Driven}
 use Rattle.css_drive.specs.declared.driven.Driven.TheVariants as driven
 use Rattle.css_drive.specs.declared.session.Session.{Session}
@@ -77,8 +77,8 @@ pub record Reads (peer : ℕ) (old mid : At) (after : Companion) : Type 0 where
   pub read : HasRead old.shown mid.shown old.live mid.live old.companion mid.companion why.Ask clocked
   pub bytes : List ℕ
   pub request : bytes ≡ encoded (request_at clocked.reading)
-  pub known : (config : DriveConfig) (history : History) → Knows config mid.companion history
-      → Knows config after (Sent peer bytes ∷ Clock why.Ask clocked.reading ∷ history)
+  pub known : (own : CompanionConfig) (history : History) → Knows own mid.companion history
+      → Knows own after (Sent peer bytes ∷ Clock why.Ask clocked.reading ∷ history)
 
 -- and it was sent
 pub record Requests (peer : ℕ) (old new : At) : Type 0 where
@@ -104,8 +104,8 @@ pub record Lands (bytes : List ℕ) (old new : At) : Type 0 where
   pub clocked : Clocked
   pub awake : Companion
   pub read : HasRead old.shown new.shown old.live new.live old.companion awake why.Land clocked
-  pub known : (config : DriveConfig) (peer : ℕ) (history : History) → Knows config old.companion history
-      → Knows config new.companion (clock_entries why.Land clocked ++ (Took peer bytes ∷ history))
+  pub known : (own : CompanionConfig) (peer : ℕ) (history : History) → Knows own old.companion history
+      → Knows own new.companion (clock_entries why.Land clocked ++ (Took peer bytes ∷ history))
 
 -- it was not
 abbrev pub FailsLanding : Option OutFault → At → At → Driven → Type 0
@@ -134,15 +134,15 @@ refusal_by which _ history = None
 pub record Hears (which : Session) (peer : ℕ) (said : Answer) (old new : At) : Type 0 where
   pub called : Adds old.shown new.shown (heard_entries peer said)
   pub live : new.live ≡ with_answer peer said old.live
-  pub known : (config : DriveConfig) (history : History) → kind_of peer history ≡ Some (kind_for which)
-      → Knows config old.companion history
-      → (refusal_by which said history ≡ None) × Knows config new.companion (heard_entries peer said ++ history)
+  pub known : (own : CompanionConfig) (history : History) → kind_of peer history ≡ Some (kind_for which)
+      → Knows own old.companion history
+      → (refusal_by which said history ≡ None) × Knows own new.companion (heard_entries peer said ++ history)
 
 -- it wasn't, or its text is refused
 abbrev pub FailsHearing : Option OutFault → Session → ℕ → At → At → Driven → Type 0
 FailsHearing over which peer old new ended = Fails old.shown new.shown over ended
-    ⊎ ((said : Answer) × IsCut ended × Adds old.shown new.shown (heard_entries peer said) × ((config : DriveConfig)
-    (history : History) → kind_of peer history ≡ Some (kind_for which) → Knows config old.companion history
+    ⊎ ((said : Answer) × Adds old.shown new.shown (heard_entries peer said) × ((own : CompanionConfig)
+    (history : History) → kind_of peer history ≡ Some (kind_for which) → Knows own old.companion history
     → IsRefusal (refusal_by which said history) ended))
 
 -- a session is asked, where it is open, and whether a text came is told

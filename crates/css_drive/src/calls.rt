@@ -5,7 +5,7 @@ ghost use Rattle.css_outside.specs.Faults.{CountsOutFault, HasRisen};
 ghost use Rattle.css_outside.specs.declared.fault.OutFault.{OutFault as Fault};
 ghost use Rattle.css_outside.specs.Outsides.{heard_entries, wrote_entries};
 ghost use Rattle.css_drive.specs.CompanionDue as dues;
-ghost use Rattle.css_drive.specs.CompanionStanding.{Shown, shown, IsEarly, IsCut, IsFault, Fails, Calls, Adds};
+ghost use Rattle.css_drive.specs.CompanionStanding.{Shown, shown, IsEarly, IsFault, Fails, Calls, Adds};
 ghost use Rattle.css_drive.specs.CompanionStanding.{HasDialled, GivesPlace};
 
 use crate::driven::Driven;
@@ -19,7 +19,6 @@ use std::alloc::Global;
 /// How a run ends with a fault of the outside, of an observer that isn't over.
 pub fn end_of(fault: OutFault) -> Driven
     ensures early { IsEarly result }
-    ensures cut { IsCut result }
     ensures fault { IsFault result }
     ensures failed { (old : Shown) → (new : Shown) → (over : Option Fault) → over ≡ None → new.told ≡ old.told
         → CountsOutFault old.counts.faults new.counts.faults fault → new.counts.dial_faults ≡ old.counts.dial_faults
@@ -35,7 +34,6 @@ pub fn end_of(fault: OutFault) -> Driven
 pub fn refused(fault: CompanionFault) -> Driven
     ensures end { result ≡ dues.end_by fault }
     ensures early { IsEarly result }
-    ensures cut { IsCut result }
 {
     match fault {
         CompanionFault::BadCii { text, fault } => Driven::BadCii { text, fault },
@@ -53,7 +51,6 @@ pub fn place(
 ) -> Result<Option<Address>, Driven>
     ensures gives { GivesPlace property (dues.place kind url.now) result }
     ensures early { IfErr result IsEarly }
-    ensures cut { IfErr result IsCut }
 {
     let Some(text) = url else {
         return Ok(None);
@@ -73,7 +70,7 @@ pub fn dial<O: Outside>(outside: &mut O, kind: Kind, to: &Address) -> Result<Opt
     ensures dials { (O.counts outside.old).dial_faults ≤ (O.counts outside.new).dial_faults }
     ensures tried { IfOk result (λ tried. tried ≡ None
         → HasRisen (O.counts outside.old).dial_faults (O.counts outside.new).dial_faults) }
-    ensures cut { IfErr result IsCut }
+    ensures early { IfErr result IsEarly }
 {
     match outside.dial(kind, to) {
         Ok(peer) => Ok(Some(peer)),
@@ -87,7 +84,7 @@ pub fn send_datagram<O: Outside>(outside: &mut O, peer: u32, bytes: &[u8; 32]) -
     ensures told { Calls (shown (O.told outside.old) (O.counts outside.old))
         (shown (O.told outside.new) (O.counts outside.new)) None
         (λ old new _. Adds old new (Sent peer bytes.now ∷ [])) result }
-    ensures cut { IfErr result IsCut }
+    ensures early { IfErr result IsEarly }
 {
     match outside.send_datagram(peer, bytes) {
         Ok(()) => Ok(()),
@@ -100,7 +97,7 @@ pub fn send_text<O: Outside>(outside: &mut O, peer: u32, text: &[u8]) -> Result<
     ensures told { Calls (shown (O.told outside.old) (O.counts outside.old))
         (shown (O.told outside.new) (O.counts outside.new)) None
         (λ old new sent. Adds old new (wrote_entries peer text.now sent)) result }
-    ensures cut { IfErr result IsCut }
+    ensures early { IfErr result IsEarly }
 {
     match outside.send_text(peer, text) {
         Ok(sent) => Ok(sent),
@@ -113,7 +110,7 @@ pub fn take_text<O: Outside>(outside: &mut O, peer: u32) -> Result<Heard, Driven
     ensures told { Calls (shown (O.told outside.old) (O.counts outside.old))
         (shown (O.told outside.new) (O.counts outside.new)) None
         (λ old new heard. Adds old new (heard_entries peer heard)) result }
-    ensures cut { IfErr result IsCut }
+    ensures early { IfErr result IsEarly }
 {
     match outside.take_text(peer) {
         Ok(heard) => Ok(heard),
@@ -126,7 +123,7 @@ pub fn hang_up<O: Outside>(outside: &mut O, peer: u32) -> Result<(), Driven>
     ensures told { Calls (shown (O.told outside.old) (O.counts outside.old))
         (shown (O.told outside.new) (O.counts outside.new)) None
         (λ old new _. Adds old new (HungUp peer ∷ [])) result }
-    ensures cut { IfErr result IsCut }
+    ensures early { IfErr result IsEarly }
 {
     match outside.hang_up(peer) {
         Ok(()) => Ok(()),

@@ -18,7 +18,7 @@ use std::alloc::Global;
 /// The companion of a configuration.
 pub fn companion_of(alloc: Global, config: &DriveConfig) -> Result<Companion, Memory>
     requires { IsWritable config.now }
-    ensures known { IfOk result (λ companion. Knows config.now companion []) }
+    ensures known { IfOk result (λ companion. Knows config.now.companion companion []) }
     ensures floor { IfOk result (λ companion. companion.client.floor ≡ 0) }
 {
     let wanted = CompanionConfig {
@@ -37,7 +37,7 @@ fn drive_telling<K: Sink, O: Outside, F: Listens>(
     outside: &mut O,
     telling: &mut Telling<'_, K, F>,
 ) -> Driven
-    requires known { Knows config.now companion.old [] }
+    requires known { Knows config.now.companion companion.old [] }
     requires floor { companion.old.client.floor ≡ 0 }
     requires bounds { IfSome config.now.present IsWindow }
     requires on { telling.old.over ≡ None }

@@ -5,6 +5,7 @@ ghost use Rattle.css_outside.specs.declared.calls.Wrote.TheVariants.{Sent};
 ghost use Rattle.css_outside.specs.declared.fault.OutFault.{OutFault as Fault};
 ghost use Rattle.css_model.specs.History.{Entry, History};
 ghost use Rattle.css_companion.specs.Steps.{IsEvent, IsEntryOf};
+ghost use Rattle.css_companion.specs.declared.config.CompanionConfig.{CompanionConfig};
 ghost use Rattle.css_drive.specs.CompanionDue.{Point, due_at};
 ghost use Rattle.css_drive.specs.CompanionStanding.{Shown, shown, shown_of, IsEarly, Fails, Calls, HasDialled, HasRead};
 ghost use Rattle.css_drive.specs.CompanionStanding.{IsAt, Knows, LeadsFrom, Stays, final_end};
@@ -92,8 +93,8 @@ pub fn note_sleep<W: Observes>(observer: &mut W, clocked: &Clocked)
 /// Tells the companion of its TS session, of which nothing is refused.
 pub fn tell(companion: &mut Companion, event: CompanionEvent) -> Result<(), Driven>
     requires { IsEvent event }
-    ensures ok { (config : Config) → (history : History) → (entry : Entry) → Knows config companion.old history
-        → IsEntryOf event entry history → OnOk result (Knows config companion.new (entry ∷ history)) }
+    ensures ok { (own : CompanionConfig) → (history : History) → (entry : Entry) → Knows own companion.old history
+        → IsEntryOf event entry history → OnOk result (Knows own companion.new (entry ∷ history)) }
     ensures err { IfErr result (λ ended. ended ≡ Driven.Memory) }
     ensures same { companion.new.client ≡ companion.old.client }
 {

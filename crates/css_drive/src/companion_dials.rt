@@ -7,6 +7,7 @@ ghost use Rattle.css_tsmsg.specs.Setups.{setup_text};
 ghost use Rattle.css_cii.specs.declared.name.CiiName.TheVariants.{WcUrl};
 ghost use Rattle.css_companion.specs.Standing.{wanted_by};
 ghost use Rattle.css_companion.specs.Steps as steps;
+ghost use Rattle.css_companion.specs.declared.config.CompanionConfig.{CompanionConfig};
 ghost use Rattle.css_drive.specs.CompanionDue as dues;
 ghost use Rattle.css_drive.specs.CompanionDue.{from_cii, from_wc, from_ts, from_ask, Connected, SetUp};
 ghost use Rattle.css_drive.specs.Configs.{IsWindow};
@@ -32,8 +33,8 @@ fn owed(companion: &mut Companion, event: CompanionEvent) -> Result<Text, Driven
     ensures text { IfOk result (λ text. (told : List ℕ) → steps.owed companion.old event ≡ Ok (Some told)
         → text ≡ told) }
     ensures err { IfErr result (λ ended. ended ≡ Driven.Memory) }
-    ensures known { (config : Config) → (history : History) → (entry : Entry) → Knows config companion.old history
-        → steps.IsEntryOf event entry history → OnOk result (Knows config companion.new (entry ∷ history)) }
+    ensures known { (own : CompanionConfig) → (history : History) → (entry : Entry) → Knows own companion.old history
+        → steps.IsEntryOf event entry history → OnOk result (Knows own companion.new (entry ∷ history)) }
     ensures same { OnOk result (companion.new ≡ steps.stepped companion.old event) }
     ensures client { companion.new.client ≡ companion.old.client }
 {

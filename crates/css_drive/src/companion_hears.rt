@@ -5,12 +5,13 @@ ghost use Rattle.css_model.specs.declared.Why.TheVariants as whys;
 ghost use Rattle.css_companion.specs.Meanings.{kind_of};
 ghost use Rattle.css_drive.specs.CompanionDue.{due, from_ask, from_take, from_cii_text, hang_up};
 ghost use Rattle.css_drive.specs.CompanionStanding.{Shown, shown_of, Stands, Knows, Leads, Goes, Stops, Stays, Names};
-ghost use Rattle.css_drive.specs.CompanionStanding.{IsDue, IsCut, IsEarly, Hangs, TakesIn, a_reading};
+ghost use Rattle.css_drive.specs.CompanionStanding.{IsDue, IsEarly, Hangs, TakesIn, a_reading};
 ghost use Rattle.css_drive.specs.CompanionStanding.{kind_for, open_of, from_text, after_text};
 ghost use Rattle.css_drive.specs.CompanionTurns.{is_asking};
 ghost use Rattle.css_drive.specs.Proper.{Due};
 ghost use Rattle.css_drive.specs.Stages.{AsksOnce, Lands, FailsLanding, HearsOnce, at};
 ghost use Rattle.css_drive.specs.declared.config.DriveConfig.{DriveConfig as Config};
+ghost use Rattle.css_companion.specs.declared.config.CompanionConfig.{CompanionConfig};
 
 use crate::calls;
 use crate::calls::{end_of, refused, send_datagram, take_text};
@@ -26,11 +27,10 @@ use css_outside::{Heard, Outside, Why};
 
 /// Takes a text of a session in.
 fn take_in(companion: &mut Companion, session: Session, text: Text) -> Result<(), Driven>
-    ensures told { (config : Config) → (peer : ℕ) → (history : History)
-        → kind_of peer history ≡ Some (kind_for session) → Knows config companion.old history
-        → TakesIn config session peer text history companion.new result }
+    ensures told { (own : CompanionConfig) → (peer : ℕ) → (history : History)
+        → kind_of peer history ≡ Some (kind_for session) → Knows own companion.old history
+        → TakesIn own session peer text history companion.new result }
     ensures early { IfErr result IsEarly }
-    ensures cut { IfErr result IsCut }
     ensures same { companion.new.client ≡ companion.old.client }
 {
     match session {
@@ -47,9 +47,9 @@ fn take_in(companion: &mut Companion, session: Session, text: Text) -> Result<()
 
 /// Tells the companion that a session is over.
 fn let_go(companion: &mut Companion, session: Session) -> Result<(), Driven>
-    ensures told { (config : Config) → (peer : ℕ) → (history : History)
-        → kind_of peer history ≡ Some (kind_for session) → Knows config companion.old history
-        → OnOk result (Knows config companion.new (Closed peer ∷ history)) }
+    ensures told { (own : CompanionConfig) → (peer : ℕ) → (history : History)
+        → kind_of peer history ≡ Some (kind_for session) → Knows own companion.old history
+        → OnOk result (Knows own companion.new (Closed peer ∷ history)) }
     ensures err { IfErr result (λ ended. ended ≡ Driven.Memory) }
     ensures same { companion.new.client ≡ companion.old.client }
 {
@@ -119,7 +119,7 @@ impl<O: Outside, W: Observes> Run<'_, O, W> {
         ensures goes { (config : Config) → (before : Shown) → (started : W) → (history : History) → (peer : ℕ)
             → Stands config before (shown_of O.told O.counts self.old) (W.saw started self.old.observer.now)
             self.old.live.now (Took peer bytes.now ∷ history)
-            → Knows config self.old.companion.now history
+            → Knows config.companion self.old.companion.now history
             → Goes config before (shown_of O.told O.counts self.new) (W.saw started self.new.observer.now)
             (W.over self.new.observer.now) self.new.live.now self.new.companion.now
             (λ _. IsDue config from_cii_text) result }

@@ -145,7 +145,7 @@ impl<O: Outside, W: Observes> Run<'_, O, W> {
 
     /// Makes the turns, and hangs up. The observer has the last word.
     fn turns(&mut self, config: &DriveConfig) -> Driven
-        requires known { Knows config.now self.old.companion.now [] }
+        requires known { Knows config.now.companion self.old.companion.now [] }
         requires floor { self.old.companion.now.client.floor ≤ (O.counts self.old.outside.now).last }
         requires bounds { IfSome config.now.present IsWindow }
         requires begun { W.saw self.old.observer.now self.old.observer.now [] }
@@ -179,7 +179,7 @@ fn drive_from<O: Outside, W: Observes>(
     observer: &mut W,
     live: &mut Live,
 ) -> Driven
-    requires known { Knows config.now companion.old [] }
+    requires known { Knows config.now.companion companion.old [] }
     requires floor { companion.old.client.floor ≡ 0 }
     requires bounds { IfSome config.now.present IsWindow }
     requires begun { W.saw observer.old observer.old [] }
@@ -209,7 +209,7 @@ pub fn drive<O: Outside, W: Observes>(
     outside: &mut O,
     observer: &mut W,
 ) -> Driven
-    requires known { Knows config.now companion.old [] }
+    requires known { Knows config.now.companion companion.old [] }
     requires floor { companion.old.client.floor ≡ 0 }
     requires bounds { IfSome config.now.present IsWindow }
     requires begun { W.saw observer.old observer.old [] }

@@ -40,7 +40,7 @@ pub trait Observes {
         requires floor { companion.now.client.floor ≤ clocked.now.reading }
         requires below { clocked.now.reading < LIMIT }
         ensures { (from : Standpoint)
-            → Knows from.config companion.now (sleep_entries clocked.now.slept ++ from.history)
+            → Knows from.config.companion companion.now (sleep_entries clocked.now.slept ++ from.history)
             → Sees saw over self.old self.new (notes.turn_notes from clocked.now) };
 
     /// A turn began, and this report was made at once. Reports are numbered from 1.
@@ -48,7 +48,7 @@ pub trait Observes {
         requires floor { companion.now.client.floor ≤ clocked.now.reading }
         requires below { clocked.now.reading < LIMIT }
         ensures { (from : Standpoint)
-            → Knows from.config companion.now (sleep_entries clocked.now.slept ++ from.history)
+            → Knows from.config.companion companion.now (sleep_entries clocked.now.slept ++ from.history)
             → Sees saw over self.old self.new (Reported (slept_from from clocked.now.slept) number report.now
             ∷ notes.turn_notes from clocked.now) };
 
@@ -65,12 +65,12 @@ pub trait Observes {
         requires floor { companion.now.client.floor ≤ clocked.now.reading }
         requires below { clocked.now.reading < LIMIT }
         ensures { (from : Standpoint)
-            → Knows from.config companion.now (sleep_entries clocked.now.slept ++ from.history)
+            → Knows from.config.companion companion.now (sleep_entries clocked.now.slept ++ from.history)
             → Sees saw over self.old self.new (notes.landing_notes from clocked.now bytes.now) };
 
     /// A text came.
     fn heard(&mut self, session: Session, text: &Text, companion: &Companion)
-        ensures { (from : Standpoint) → Knows from.config companion.now from.history
+        ensures { (from : Standpoint) → Knows from.config.companion companion.now from.history
             → Sees saw over self.old self.new (Happened from (notes.Heard session text.now) ∷ []) };
 
     /// A session is over.

@@ -1,7 +1,7 @@
 -- What a relay's run makes of the calls of its companion.
-use Rattle.std.proofs.Common.{◌≡◌, ℕ, arith, ap, ap₂, ◌∙◌, refl, Bool, true, false, cond, [], ◌∷◌, ◌++◌, Option, Some}
-use Rattle.std.proofs.Common.{List, None, sym, subst, inl, inr, Result, Ok, Err, eq-eqb}
-use Rattle.std.specs.Prelude.{IfErr, MatchResult, is_some, ◌&&◌}
+use Rattle.std.proofs.Common.{◌≡◌, ℕ, ap, ap₂, ◌∙◌, refl, Bool, true, false, cond, [], ◌∷◌, ◌++◌, Option, Some, List}
+use Rattle.std.proofs.Common.{None, sym, subst, inl, inr, Result, Ok, Err, eq-eqb}
+use Rattle.std.specs.Prelude.{MatchResult, is_some, ◌&&◌}
 use Rattle.css_model.specs.declared.Kind.{Kind}
 use Rattle.css_model.specs.declared.Kind.TheVariants as kind
 use Rattle.css_model.specs.declared.Why.{Why}
@@ -12,31 +12,31 @@ use Rattle.css_address.specs.declared.fault.AddressFault.{AddressFault}
 use Rattle.css_cii.specs.declared.name.CiiName.TheVariants.{WcUrl}
 use Rattle.css_cii.specs.declared.state.State.{State}
 use Rattle.css_companion.specs.Meanings.{kind_of, is_ts, opens_ts, state_of}
-use Rattle.css_companion.specs.Standing.{Companion, own_of}
+use Rattle.css_companion.specs.Standing.{Companion}
 use Rattle.css_outside.specs.Outsides.{clock_entries, heard_entries}
 use Rattle.css_outside.specs.declared.calls.Clocked.{Clocked}
 use Rattle.css_outside.specs.declared.calls.Heard.{Heard as Answer}
 use Rattle.css_outside.specs.declared.calls.Heard.TheVariants as answer
 use Rattle.css_relay.specs.Lending.{with_companion}
-use Rattle.css_relay.specs.Relays.{Relay, relayed_state}
+use Rattle.css_relay.specs.Relays.{relayed_state}
 use Rattle.css_drive.specs.CompanionDue.{dial_first, dial_to, place, send_to}
 use Rattle.css_drive.specs.CompanionStanding as companions
-use Rattle.css_drive.specs.CompanionStanding.{Shown, GivesPlace, IsCut, IsEndBy, IsRefusal, dial_entries, still}
+use Rattle.css_drive.specs.CompanionStanding.{Shown, GivesPlace, IsRefusal, dial_entries, still}
 use Rattle.css_drive.specs.CompanionTurns.{is_asking, unless}
 use Rattle.css_drive.specs.Proper.{Due, Dial, Now, SendDatagram, TakeDatagram}
 use Rattle.css_drive.specs.Stages.{At, Dials, DialsOnce, DialsTold, with_dial, Reads, AsksOnce, Lands, FailsLanding}
-use Rattle.css_drive.specs.Stages.{Hears, HearsOnce, is_text, refusal_by, at_of}
+use Rattle.css_drive.specs.Stages.{Hears, HearsOnce, is_text, refusal_by, with_answer, at_of}
 use Rattle.css_drive.specs.declared.companion_live.Live.{Live as Own}
-use Rattle.css_drive.specs.declared.config.DriveConfig.{DriveConfig}
 use Rattle.css_drive.specs.declared.driven.Driven.{Driven}
 use Rattle.css_drive.specs.declared.driven.Driven.TheVariants as driven
 use Rattle.css_drive.specs.declared.session.Session.TheVariants as session
 use Rattle.css_drive.proofs.CompanionSteps.{lawful_plain}
 use Rattle.css_drive_relay.specs.Due.{due_at, from_ask, from_cii, from_take, from_wc}
-use Rattle.css_drive_relay.specs.Places.{Asked, Asking, Called, Facts, Place, Progress, Requested, Served, Taken}
+use Rattle.css_drive_relay.specs.Places.{Asked, Asking, Begun, Called, Facts, Place, Progress, Requested, Served, Taken}
 use Rattle.css_drive_relay.specs.Places.{Welcomed, published, welcomed}
-use Rattle.css_drive_relay.specs.Standing.{Comes, HasRead, IsAt, Knows, Runs, Stands, Stops, facts_in, stood}
-use Rattle.css_drive_relay.specs.declared.config.RelayRun.{RelayRun}
+use Rattle.css_drive_relay.specs.Standing.{Comes, DialsAndAsks, HasRead, IsAt, Knows, Runs, Stands, Stops, facts_in}
+use Rattle.css_drive_relay.specs.Standing.{stood}
+use Rattle.css_drive_relay.specs.declared.plan.Plan.{Plan}
 use Rattle.css_drive_relay.specs.declared.live.Live.{Live}
 use Rattle.css_drive_relay.proofs.Steps as steps
 
@@ -48,52 +48,10 @@ now_at shown live = at_of shown live.own live.relay.companion
 abbrev pub with_at : Live → At → Live
 with_at live at = record live { own = at.live; relay = with_companion live.relay at.companion }
 
--- ---- what its companion learns
--- the configuration of a run with such a companion
-any : RelayRun → Companion → DriveConfig
-any run companion = record {
-  companion = record { selector = companion.setup.selector; stem = companion.setup.stem; local = own_of companion };
-  cii = run.cii;
-  reports = 1;
-  limit = run.limit;
-  report_every = 1;
-  ask_every = run.ask_every;
-  present = None;
-  some_reports = omega arith;
-  few_reports = omega arith;
-  limit_range = run.limit_range;
-  reports_apart = omega arith;
-  reports_come = omega arith;
-  requests_apart = run.requests_apart;
-  requests_come = run.requests_come;
-}
-
-known_so : {run : RelayRun} {relay : Relay} {h : History} → Knows run relay h
-    → companions.Knows (any run relay.companion) relay.companion h
-unfolding any
-known_so k = record { stands = k.stands; setup = refl; own = refl }
-
-pub learns : {run : RelayRun} {relay : Relay} {is : Companion} {h later : History} → Knows run relay h
-    → ((config : DriveConfig) → companions.Knows config relay.companion h → companions.Knows config is later)
-    → Knows run (with_companion relay is) later
-unfolding any
-learns {run} {relay} k learn =
-    let x = learn (any run relay.companion) (known_so k) in
-    record { stands = x.stands; own = x.own ∙ k.own; wc_url = k.wc_url }
-
 pub has_read : (live : Live) {own : Own} {is : Companion} {now next : Shown} {w : Why} {clocked : Clocked}
     → companions.HasRead now next live.own own live.relay.companion is w clocked
     → HasRead now next live (record live { own = own; relay = with_companion live.relay is }) w clocked
-has_read live r = record {
-  told = r.told;
-  faults = r.faults;
-  peers = r.peers;
-  last = r.last;
-  below = r.below;
-  floor = r.floor;
-  known = λ run h k. learns k (λ config. r.known config h);
-  only = ap {A = Own} {B = Facts} (λ x. facts_in (record live { own = x })) r.only;
-}
+has_read live r = record { read = r; rest = refl }
 
 pub reads : (live : Live) (own : Own) (is : Companion) (now next : Shown) (w : Why) (result : Result Clocked Driven)
     → companions.Calls now next None (λ old new. companions.HasRead old new live.own own live.relay.companion is w) result
@@ -104,15 +62,15 @@ pub reads : (live : Live) (own : Own) (is : Companion) (now next : Shown) (w : W
 reads live own is now next w (Ok clocked) r = has_read live r
 reads live own is now next w (Err ended) f = f
 
-module _ (live : Live) {run : RelayRun} {start now : Shown} {history : History} {spot : Place}
-    (s : Stands run start now live.relay (stood live spot) history) where
+module _ (live : Live) {plan : Plan} {start now : Shown} {history : History} {spot : Place}
+    (s : Stands plan start now live.relay (stood live spot) history) where
   -- ---- dials
   tried : (k : Kind) (to : Address) → ((q : ℕ) → opens_ts (Dialled k q) ≡ false)
-      → due_at run (facts_in live) history spot ≡ Dial k to → {new : At} → Dials k to (now_at now live) new
-      → (h : History) × Stands run start new.shown (with_companion live.relay new.companion)
+      → due_at plan (facts_in live) history spot ≡ Dial k to → {new : At} → Dials k to (now_at now live) new
+      → (h : History) × Stands plan start new.shown (with_companion live.relay new.companion)
       (stood (with_at live new) (Called k)) h
   tried k to opens is {new} d =
-      let P : Own → Companion → Type 0 = λ own companion. Stands run start new.shown
+      let P : Own → Companion → Type 0 = λ own companion. Stands plan start new.shown
       (with_companion live.relay companion) (stood (record live { own = own }) (Called k))
       (dial_entries k to d.tried ++ history) in
       let stands = steps.stands_as (steps.dialled live s k to is opens d.tried d.called)
@@ -130,62 +88,63 @@ module _ (live : Live) {run : RelayRun} {start now : Shown} {history : History} 
 
   -- nothing was called
   same : (to : Facts → History → Due) {new : At} → new ≡ now_at now live
-      → due_at run (facts_in live) history spot ≡ to (facts_in live) history
-      → Comes to run start new.shown (with_at live new)
+      → due_at plan (facts_in live) history spot ≡ to (facts_in live) history
+      → Comes to plan start new.shown (with_at live new)
   same to e is =
-      subst (λ (a : At). Comes to run start a.shown (with_at live a)) (sym e) (history, spot, s, is)
+      subst (λ (a : At). Comes to plan start a.shown (with_at live a)) (sym e) (history, spot, s, is)
 
   pub goes_cii : (known : Option ℕ) → live.own.cii ≡ known
-      → due_at run (facts_in live) history spot ≡ from_cii run (facts_in live) history → (new : At)
-      (result : Result (Unit {0}) Driven) → DialsOnce None kind.Cii known run.cii (now_at now live) new result
-      → MatchResult result (λ _. Comes (from_wc run) run start new.shown (with_at live new))
-      (Stops run start new.shown)
+      → due_at plan (facts_in live) history spot ≡ from_cii plan (facts_in live) history → (new : At)
+      (result : Result (Unit {0}) Driven) → DialsOnce None kind.Cii known plan.run.cii (now_at now live) new result
+      → MatchResult result (λ _. Comes (from_wc plan) plan start new.shown (with_at live new))
+      (Stops plan start new.shown)
   goes_cii None e is new (Ok done) d =
-      let x = tried kind.Cii run.cii (λ q. refl)
-      (is ∙ ap (λ o. dial_first o run.cii (from_wc run (facts_in live) history)) e) d in
+      let x = tried kind.Cii plan.run.cii (λ q. refl)
+      (is ∙ ap (λ o. dial_first o plan.run.cii (from_wc plan (facts_in live) history)) e) d in
       (x.0, Called kind.Cii, x.1, refl)
   goes_cii None e is new (Err ended) f = steps.stops_by_fault s.runs (steps.lawful s.knows) f
   goes_cii (Some q) e is new (Ok done) x =
-      same (from_wc run) x (is ∙ ap (λ o. dial_first o run.cii (from_wc run (facts_in live) history)) e)
+      same (from_wc plan) x (is ∙ ap (λ o. dial_first o plan.run.cii (from_wc plan (facts_in live) history)) e)
   goes_cii (Some q) e is new (Err ended) never = absurd never
 
-  stops : (new : At) {ended : Driven} → new.shown ≡ now → Stops run start now ended → Stops run start new.shown ended
-  stops new {ended} e x = subst (λ (shown : Shown). Stops run start shown ended) (sym e) x
+  stops : (new : At) {ended : Driven} → new.shown ≡ now → Stops plan start now ended → Stops plan start new.shown ended
+  stops new {ended} e x = subst (λ (shown : Shown). Stops plan start shown ended) (sym e) x
 
   bad : (told : Option (Result Address AddressFault)) (ended : Driven) → GivesPlace WcUrl told (Err ended)
-      → due_at run (facts_in live) history spot ≡ dial_to None kind.Wc WcUrl told (from_ask run (facts_in live) history)
-      → Stops run start now ended
+      → due_at plan (facts_in live) history spot ≡ dial_to None kind.Wc WcUrl told (from_ask plan (facts_in live) history)
+      → Stops plan start now ended
   bad told driven.Memory g d = steps.stops_by_memory s.runs (steps.lawful s.knows) driven.Memory refl
   bad told _ g d =
-      subst (λ (x : Driven). Stops run start now x) (sym g.1) (steps.stops_here s.runs (steps.lawful s.knows)
-      (driven.BadUrl WcUrl) (λ x. x)
-      (d ∙ ap (λ x. dial_to None kind.Wc WcUrl x (from_ask run (facts_in live) history)) g.2))
+      subst (λ (x : Driven). Stops plan start now x) (sym g.1) (steps.stops_here s.runs (steps.lawful s.knows)
+      (driven.BadUrl WcUrl) tt
+      (d ∙ ap (λ x. dial_to None kind.Wc WcUrl x (from_ask plan (facts_in live) history)) g.2))
 
   pub goes_wc : (known : Option ℕ) (told : Option (Result Address AddressFault)) → live.own.wc ≡ known
       → place kind.Wc live.relay.companion.state.wc_url ≡ told
-      → due_at run (facts_in live) history spot ≡ from_wc run (facts_in live) history → (new : At)
+      → due_at plan (facts_in live) history spot ≡ from_wc plan (facts_in live) history → (new : At)
       (result : Result (Unit {0}) Driven) → DialsTold None kind.Wc WcUrl known told (now_at now live) new result
-      → MatchResult result (λ _. Comes (from_ask run) run start new.shown (with_at live new))
-      (Stops run start new.shown)
+      → MatchResult result (λ _. Comes (from_ask plan) plan start new.shown (with_at live new))
+      (Stops plan start new.shown)
   goes_wc known told e t is new result d = by known told (due known told e t) result d
     where
       rest : Due
-      rest = from_ask run (facts_in live) history
+      rest = from_ask plan (facts_in live) history
 
       due : (known : Option ℕ) (told : Option (Result Address AddressFault)) → live.own.wc ≡ known
           → place kind.Wc live.relay.companion.state.wc_url ≡ told
-          → due_at run (facts_in live) history spot ≡ dial_to known kind.Wc WcUrl told rest
+          → due_at plan (facts_in live) history spot ≡ dial_to known kind.Wc WcUrl told rest
       due known told e t =
           is ∙ ap (λ o. dial_to o kind.Wc WcUrl (place kind.Wc (state_of history).wc_url) rest) e
-          ∙ ap (λ (x : State). dial_to known kind.Wc WcUrl (place kind.Wc x.wc_url) rest) (sym s.knows.stands.state)
+          ∙ ap (λ (x : State). dial_to known kind.Wc WcUrl (place kind.Wc x.wc_url) rest)
+          (sym s.knows.companion.stands.state)
           ∙ ap (λ x. dial_to known kind.Wc WcUrl x rest) t
 
       by : (known : Option ℕ) (told : Option (Result Address AddressFault))
-          → due_at run (facts_in live) history spot ≡ dial_to known kind.Wc WcUrl told rest
+          → due_at plan (facts_in live) history spot ≡ dial_to known kind.Wc WcUrl told rest
           → (result : Result (Unit {0}) Driven) → DialsTold None kind.Wc WcUrl known told (now_at now live) new result
-          → MatchResult result (λ _. Comes (from_ask run) run start new.shown (with_at live new))
-          (Stops run start new.shown)
-      by (Some q) told is (Ok done) x = same (from_ask run) x is
+          → MatchResult result (λ _. Comes (from_ask plan) plan start new.shown (with_at live new))
+          (Stops plan start new.shown)
+      by (Some q) told is (Ok done) x = same (from_ask plan) x is
       by (Some q) told is (Err ended) never = absurd never
       by None (Some (Ok to)) is (Ok done) d =
           let x = tried kind.Wc to (λ q. refl) is d in (x.0, Called kind.Wc, x.1, refl)
@@ -194,26 +153,26 @@ module _ (live : Live) {run : RelayRun} {start now : Shown} {history : History} 
           stops new x.0 (steps.stops_by_memory s.runs (steps.lawful s.knows) ended x.1)
       by None (Some (Err b)) is (Ok done) x = let never = x.0 in absurd (cc)
       by None (Some (Err b)) is (Err ended) x = stops new x.0 (bad (Some (Err b)) ended x.1 is)
-      by None None is (Ok done) x = same (from_ask run) x.1 is
+      by None None is (Ok done) x = same (from_ask plan) x.1 is
       by None None is (Err ended) x = stops new x.0 (bad None ended x.1 is)
 
   -- ---- requests
-  asking : (peer : ℕ) → live.own.wc ≡ Some peer → is_asking run.ask_every live.own.turn live.own.asked ≡ true
-      → due_at run (facts_in live) history spot ≡ from_ask run (facts_in live) history → {mid : At} {after : Companion}
+  asking : (peer : ℕ) → live.own.wc ≡ Some peer → is_asking plan.run.ask_every live.own.turn live.own.asked ≡ true
+      → due_at plan (facts_in live) history spot ≡ from_ask plan (facts_in live) history → {mid : At} {after : Companion}
       → (r : Reads peer (now_at now live) mid after)
-      → Runs run start mid.shown (stood (with_at live mid) (Asking r.clocked.reading))
+      → Runs plan start mid.shown (stood (with_at live mid) (Asking r.clocked.reading))
       (clock_entries why.Ask r.clocked ++ history)
   asking peer e time is r = steps.asks {live = live} {clocked = r.clocked} s.runs is peer e time (has_read live r.read)
 
   sending : {peer : ℕ} {mid : At} {after : Companion} → (r : Reads peer (now_at now live) mid after)
-      → Knows run (with_companion live.relay after) (Sent peer r.bytes ∷ clock_entries why.Ask r.clocked ++ history)
-  sending r = learns ((has_read live r.read).known run history s.knows) (λ config. r.known config _)
+      → Knows plan (with_companion live.relay after) (Sent peer r.bytes ∷ clock_entries why.Ask r.clocked ++ history)
+  sending r = steps.learns (steps.knows_read (has_read live r.read) s.knows) (λ own. r.known own _)
 
   pub goes_ask : (known : Option ℕ) (time : Bool) → live.own.wc ≡ known
-      → is_asking run.ask_every live.own.turn live.own.asked ≡ time
-      → due_at run (facts_in live) history spot ≡ from_ask run (facts_in live) history → (new : At)
+      → is_asking plan.run.ask_every live.own.turn live.own.asked ≡ time
+      → due_at plan (facts_in live) history spot ≡ from_ask plan (facts_in live) history → (new : At)
       (result : Result (Unit {0}) Driven) → AsksOnce None known time (now_at now live) new result
-      → MatchResult result (λ _. Comes from_take run start new.shown (with_at live new)) (Stops run start new.shown)
+      → MatchResult result (λ _. Comes from_take plan start new.shown (with_at live new)) (Stops plan start new.shown)
   goes_ask (Some peer) true e time is new (Ok done) r =
       let own = r.reads.read.only in
       let wc = ap {A = Own} (λ x. x.wc) own ∙ e in
@@ -221,7 +180,7 @@ module _ (live : Live) {run : RelayRun} {start now : Shown} {history : History} 
         sent ∷ clock_entries why.Ask r.reads.clocked ++ history,
         Requested,
         record {
-          runs = subst (λ own. Runs run start new.shown (stood (record live { own = own }) Requested)
+          runs = subst (λ own. Runs plan start new.shown (stood (record live { own = own }) Requested)
               (sent ∷ clock_entries why.Ask r.reads.clocked ++ history)) (sym r.live)
               (steps.runs_on (asking peer e time is r.reads) sent (steps.may_as
               (ap (λ o. send_to o (encoded (request_at r.reads.clocked.reading))) wc
@@ -238,85 +197,111 @@ module _ (live : Live) {run : RelayRun} {start now : Shown} {history : History} 
       same from_take x (is ∙ ap₂ (λ (o : Option ℕ) (c : Bool). cond (is_some o && c) (Now why.Ask) TakeDatagram) e time)
   goes_ask (Some peer) false e time is new (Err ended) never = absurd never
   goes_ask None b e time is new (Ok done) x =
-      same from_take x (is ∙ ap (λ (o : Option ℕ). cond (is_some o && is_asking run.ask_every live.own.turn live.own.asked)
+      same from_take x (is ∙ ap (λ (o : Option ℕ). cond (is_some o && is_asking plan.run.ask_every live.own.turn live.own.asked)
       (Now why.Ask) TakeDatagram) e)
   goes_ask None b e time is new (Err ended) never = absurd never
 
+-- ---- all three
+pub all_three : (to : Address) (every : ℕ) (old a b : At)
+    → DialsOnce None kind.Cii old.live.cii to old a (Ok (tt {0}))
+    → DialsTold None kind.Wc WcUrl a.live.wc (place kind.Wc a.companion.state.wc_url) a b (Ok (tt {0}))
+    → (new : At) (result : Result (Unit {0}) Driven)
+    → AsksOnce None b.live.wc (is_asking every b.live.turn b.live.asked) b new result
+    → DialsAndAsks to every old new result
+all_three to every old a b cii wc new (Ok done) asks = (a, b, cii, wc, asks)
+all_three to every old a b cii wc new (Err ended) asks = inr (inr (a, b, cii, wc, asks))
+
+pub goes_calls : (live : Live) {plan : Plan} {start now : Shown} {history : History}
+    → Stands plan start now live.relay (stood live Begun) history → (new : At) (result : Result (Unit {0}) Driven)
+    → DialsAndAsks plan.run.cii plan.run.ask_every (now_at now live) new result
+    → MatchResult result (λ _. Comes from_take plan start new.shown (with_at live new)) (Stops plan start new.shown)
+goes_calls live s new (Ok done) (a, b, cii, wc, asks) =
+    let x = goes_cii live s _ refl refl a (Ok tt) cii in
+    let y = goes_wc (with_at live a) x.2 _ _ refl refl x.3 b (Ok tt) wc in
+    goes_ask (with_at live b) y.2 _ _ refl refl y.3 new (Ok tt) asks
+goes_calls live s new (Err ended) (inl cii) = goes_cii live s _ refl refl new (Err ended) cii
+goes_calls live s new (Err ended) (inr (inl (a, cii, wc))) =
+    let x = goes_cii live s _ refl refl a (Ok tt) cii in
+    goes_wc (with_at live a) x.2 _ _ refl refl x.3 new (Err ended) wc
+goes_calls live s new (Err ended) (inr (inr (a, b, cii, wc, asks))) =
+    let x = goes_cii live s _ refl refl a (Ok tt) cii in
+    let y = goes_wc (with_at live a) x.2 _ _ refl refl x.3 b (Ok tt) wc in
+    goes_ask (with_at live b) y.2 _ _ refl refl y.3 new (Err ended) asks
+
 -- ---- datagrams
-pub goes_land : (live : Live) {run : RelayRun} {start now : Shown} {history : History} {peer : ℕ} {bytes : List ℕ}
-    → Stands run start now live.relay (stood live (Taken peer bytes)) (Took peer bytes ∷ history)
-    → Knows run live.relay history → is_some (request_in bytes) ≡ false → (new : At)
+pub goes_land : (live : Live) {plan : Plan} {start now : Shown} {history : History} {peer : ℕ} {bytes : List ℕ}
+    → Stands plan start now live.relay (stood live (Taken peer bytes)) (Took peer bytes ∷ history)
+    → Knows plan live.relay history → is_some (request_in bytes) ≡ false → (new : At)
     (result : Result (Unit {0}) Driven)
     → MatchResult result (λ _. Lands bytes (now_at now live) new) (FailsLanding None (now_at now live) new)
-    → MatchResult result (λ _. IsAt (λ f. Served) run start new.shown (with_at live new)) (Stops run start new.shown)
+    → MatchResult result (λ _. IsAt (λ f. Served) plan start new.shown (with_at live new)) (Stops plan start new.shown)
 goes_land live {peer = peer} s k none new (Ok done) l = (
   _,
   record {
     runs = steps.lands {live = live} {clocked = l.clocked} s.runs none (has_read live l.read);
-    knows = learns k (λ config. l.known config peer _);
+    knows = steps.learns k (λ own. l.known own peer _);
   },
 )
 goes_land live s k none new (Err ended) (inl f) = steps.stops_by_fault s.runs (steps.lawful s.knows) f
-goes_land live {run} s k none new (Err ended) (inr (clocked, awake, read, e)) =
+goes_land live {plan} s k none new (Err ended) (inr (clocked, awake, read, e)) =
     steps.stops_by_memory (steps.lands {live = live} {clocked = clocked} s.runs none (has_read live read))
-    (lawful_plain (Clock why.Land clocked.reading) _ (steps.lawful ((has_read live read).known run _ s.knows)) refl refl)
-    ended e
+    (lawful_plain (Clock why.Land clocked.reading) _ (steps.lawful (steps.knows_read (has_read live read) s.knows)) refl
+    refl) ended e
 
 -- ---- the television's session
-module _ (live : Live) {run : RelayRun} {start now : Shown} {history : History}
-    (s : Stands run start now live.relay (stood live (welcomed (facts_in live))) history) (new : At) where
+module _ (live : Live) {plan : Plan} {start now : Shown} {history : History}
+    (s : Stands plan start now live.relay (stood live (welcomed (facts_in live))) history) (new : At) where
   -- whether a text came, which the relay publishes
   abbrev pub HearsSo : Bool → Type 0
-  HearsSo true = (h : History) × Stands run start new.shown (with_companion live.relay new.companion)
+  HearsSo true = (h : History) × Stands plan start new.shown (with_companion live.relay new.companion)
       (published (relayed_state live.relay.wc_url new.companion.state) (facts_in (with_at live new))) h
-  HearsSo false = IsAt (λ f. Asked f.peers) run start new.shown (with_at live new)
+  HearsSo false = IsAt (λ f. Asked f.peers) plan start new.shown (with_at live new)
 
   module _ (p : ℕ) (e : live.own.cii_open ≡ Some p) where
-    asked : Stands run start now live.relay (stood live (Welcomed p)) history
+    asked : Stands plan start now live.relay (stood live (Welcomed p)) history
     asked = steps.asked_next live s (Some p) e
 
     its_kind : kind_of p history ≡ Some kind.Cii
     its_kind = steps.its_kind s.runs e
 
     quiet : companions.Adds now new.shown (Quiet p ∷ [])
-        → Runs run start new.shown (stood live (Asked live.peers.items)) (Quiet p ∷ history)
+        → Runs plan start new.shown (stood live (Asked live.peers.items)) (Quiet p ∷ history)
     quiet a = (steps.stands_on asked (Quiet p) (answer.Quiet, refl) tt (λ x. (x.0, x.0, x.2)) a).runs
 
     closed : companions.Adds now new.shown (Closed p ∷ [])
-        → Runs run start new.shown (stood (record live { own = companions.without p live.own })
+        → Runs plan start new.shown (stood (record live { own = companions.without p live.own })
         (Asked live.peers.items)) (Closed p ∷ history)
     closed a =
         let none : still live.own.cii_open p ≡ None =
         ap (λ o. still o p) e ∙ ap (λ b. unless b (Some p)) (eq-eqb p p refl) in
-        subst (λ (o : Option ℕ). Runs run start new.shown (record {
+        subst (λ (o : Option ℕ). Runs plan start new.shown (record {
           facts = record (facts_in live) { television = o };
           place = Asked live.peers.items;
         }) (Closed p ∷ history)) (sym none) (steps.stands_on asked (Closed p) (answer.Closed, refl)
         (ap is_ts its_kind) (λ x. (x.0, x.0, tt)) a).runs
 
+    -- it told no text
+    silent : (said : Answer) → Runs plan start new.shown (stood (record live { own = with_answer p said live.own })
+        (Asked live.peers.items)) (heard_entries p said ++ history)
+        → Hears session.Cii p said (now_at now live) new → HearsSo false
+    silent said r h = (
+      heard_entries p said ++ history,
+      record {
+        runs = subst (λ own. Runs plan start new.shown (stood (record live { own = own }) (Asked live.peers.items))
+            (heard_entries p said ++ history)) (sym h.live) r;
+        knows = steps.learns s.knows (λ own k. (h.known own history its_kind k).1);
+      },
+    )
+
     heard : (said : Answer) → Hears session.Cii p said (now_at now live) new → HearsSo (is_text said)
-    heard answer.Quiet h = (
-      Quiet p ∷ history,
-      record {
-        runs = subst (λ own. Runs run start new.shown (stood (record live { own = own }) (Asked live.peers.items))
-            (Quiet p ∷ history)) (sym h.live) (quiet h.called);
-        knows = learns s.knows (λ config k. (h.known config history its_kind k).1);
-      },
-    )
-    heard answer.Closed h = (
-      Closed p ∷ history,
-      record {
-        runs = subst (λ own. Runs run start new.shown (stood (record live { own = own }) (Asked live.peers.items))
-            (Closed p ∷ history)) (sym h.live) (closed h.called);
-        knows = learns s.knows (λ config k. (h.known config history its_kind k).1);
-      },
-    )
+    heard answer.Quiet h = silent answer.Quiet (quiet h.called) h
+    heard answer.Closed h = silent answer.Closed (closed h.called) h
     heard (answer.Text text) h = (
       _,
-      subst (λ own. Stands run start new.shown (with_companion live.relay new.companion)
+      subst (λ own. Stands plan start new.shown (with_companion live.relay new.companion)
           (published (relayed_state live.relay.wc_url new.companion.state) (facts_in (record live { own = own }))) (Heard p text ∷ history))
-          (sym h.live) (steps.taken_in live p asked text h.called (h.known _ history its_kind (known_so s.knows)).0 _
-          (learns s.knows (λ config k. (h.known config history its_kind k).1))),
+          (sym h.live) (steps.taken_in live p asked text h.called (h.known _ history its_kind s.knows.companion).0 _
+          (steps.learns s.knows (λ own k. (h.known own history its_kind k).1))),
     )
 
     memory : (ended : Driven) → IsRefusal None ended → ended ≡ driven.Memory
@@ -324,7 +309,7 @@ module _ (live : Live) {run : RelayRun} {start now : Shown} {history : History}
     memory _ r = absurd r
 
     refused : (said : Answer) (ended : Driven) → companions.Adds now new.shown (heard_entries p said)
-        → IsRefusal (refusal_by session.Cii said history) ended → Stops run start new.shown ended
+        → IsRefusal (refusal_by session.Cii said history) ended → Stops plan start new.shown ended
     refused answer.Quiet ended a r =
         steps.stops_by_memory (quiet a) (lawful_plain (Quiet p) history (steps.lawful s.knows) refl refl) ended
         (memory ended r)
@@ -335,67 +320,12 @@ module _ (live : Live) {run : RelayRun} {start now : Shown} {history : History}
 
   pub goes_hear : (o : Option ℕ) → live.own.cii_open ≡ o → (result : Result Bool Driven)
       → HearsOnce None session.Cii o (now_at now live) new result
-      → MatchResult result HearsSo (Stops run start new.shown)
+      → MatchResult result HearsSo (Stops plan start new.shown)
   goes_hear None e (Ok told) x =
-      subst HearsSo (sym x.0) (subst (λ (a : At). IsAt (λ f. Asked f.peers) run start a.shown (with_at live a)) (sym x.1)
+      subst HearsSo (sym x.0) (subst (λ (a : At). IsAt (λ f. Asked f.peers) plan start a.shown (with_at live a)) (sym x.1)
       (steps.here (steps.asked_next live s None e)))
   goes_hear None e (Err ended) never = absurd never
   goes_hear (Some p) e (Ok told) (said, h, is) = subst HearsSo (sym is) (heard p e said h)
   goes_hear (Some p) e (Err ended) (inl f) = steps.stops_by_fault s.runs (steps.lawful s.knows) f
-  goes_hear (Some p) e (Err ended) (inr (said, cut, a, refusal)) =
-      refused p e said ended a (refusal _ history (its_kind p e) (known_so s.knows))
-
--- ---- its ends
-fault_cut : (ended : Driven) → IsEndBy None ended → IsCut ended
-fault_cut (driven.NetFault failure) f = tt
-fault_cut driven.Memory f = tt
-fault_cut _ f = absurd f
-
-memory_cut : (ended : Driven) → ended ≡ driven.Memory → IsCut ended
-memory_cut ended e = subst IsCut (sym e) tt
-
-pub read_cut : {T : Type 0} (old new : Shown) (well : Shown → Shown → T → Type 0) (result : Result T Driven)
-    → companions.Calls old new None well result → IfErr result IsCut
-read_cut old new well (Ok value) x = tt
-read_cut old new well (Err ended) f = fault_cut ended f.end
-
-pub once_cut : (k : Kind) (known : Option ℕ) (to : Address) (old new : At) (result : Result (Unit {0}) Driven)
-    → DialsOnce None k known to old new result → IfErr result IsCut
-once_cut k known to old new (Ok done) x = tt
-once_cut k None to old new (Err ended) f = fault_cut ended f.end
-once_cut k (Some q) to old new (Err ended) never = absurd never
-
-place_cut : (told : Option (Result Address AddressFault)) (ended : Driven) → GivesPlace WcUrl told (Err ended)
-    → IsCut ended
-place_cut told driven.Memory g = tt
-place_cut told _ g = subst IsCut (sym g.1) tt
-
-pub told_cut : (known : Option ℕ) (told : Option (Result Address AddressFault)) (old new : At)
-    (result : Result (Unit {0}) Driven) → DialsTold None kind.Wc WcUrl known told old new result → IfErr result IsCut
-told_cut known told old new (Ok done) x = tt
-told_cut (Some q) told old new (Err ended) never = absurd never
-told_cut None (Some (Ok to)) old new (Err ended) (inl f) = fault_cut ended f.end
-told_cut None (Some (Ok to)) old new (Err ended) (inr x) = memory_cut ended x.1
-told_cut None (Some (Err b)) old new (Err ended) x = place_cut (Some (Err b)) ended x.1
-told_cut None None old new (Err ended) x = place_cut None ended x.1
-
-pub ask_cut : (known : Option ℕ) (time : Bool) (old new : At) (result : Result (Unit {0}) Driven)
-    → AsksOnce None known time old new result → IfErr result IsCut
-ask_cut known time old new (Ok done) x = tt
-ask_cut (Some q) true old new (Err ended) (inl f) = fault_cut ended f.end
-ask_cut (Some q) true old new (Err ended) (inr (mid, reads, f)) = fault_cut ended f.end
-ask_cut (Some q) false old new (Err ended) never = absurd never
-ask_cut None time old new (Err ended) never = absurd never
-
-pub land_cut : (bytes : List ℕ) (old new : At) (result : Result (Unit {0}) Driven)
-    → MatchResult result (λ _. Lands bytes old new) (FailsLanding None old new) → IfErr result IsCut
-land_cut bytes old new (Ok done) x = tt
-land_cut bytes old new (Err ended) (inl f) = fault_cut ended f.end
-land_cut bytes old new (Err ended) (inr (clocked, awake, read, e)) = memory_cut ended e
-
-pub hear_cut : (o : Option ℕ) (old new : At) (result : Result Bool Driven)
-    → HearsOnce None session.Cii o old new result → IfErr result IsCut
-hear_cut o old new (Ok told) x = tt
-hear_cut (Some p) old new (Err ended) (inl f) = fault_cut ended f.end
-hear_cut (Some p) old new (Err ended) (inr (said, cut, a, refusal)) = cut
-hear_cut None old new (Err ended) never = absurd never
+  goes_hear (Some p) e (Err ended) (inr (said, a, refusal)) =
+      refused p e said ended a (refusal _ history (its_kind p e) s.knows.companion)

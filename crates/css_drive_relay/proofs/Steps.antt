@@ -2,7 +2,7 @@
 -- answers and sessions make of it, and how it ends.
 use Rattle.std.proofs.Common.{◌≡◌, ℕ, ◌≤◌, ◌<◌, arith, ap, ◌∙◌, refl, Bool, true, false, cond, List, [], ◌∷◌, ◌++◌}
 use Rattle.std.proofs.Common.{Option, Some, None, ◌+◌, sym, subst, ◌||◌, inl, inr, Result, Ok, ap₂, Err}
-use Rattle.std.specs.Prelude.{All, ◌==◌, not, is_some, ◌⊎◌, unwrap_or, MatchResult, ◌&&◌, IfSome, length}
+use Rattle.std.specs.Prelude.{All, ◌==◌, ◌≢◌, not, is_some, ◌⊎◌, unwrap_or, MatchResult, ◌&&◌, IfSome, length}
 use Rattle.std.specs.Option.{option_or, option_map}
 use Rattle.std.proofs.lemmas.Bool.{ne_eqb, eq-eqb, cond_both}
 use Rattle.std.proofs.lemmas.Option.{IfSome_then}
@@ -10,53 +10,54 @@ use Rattle.css_model.specs.declared.Message.{Message}
 use Rattle.std.proofs.lemmas.List.Elements.{All-nil, All-filter, All-head, All-cons, All-append, All-weaker}
 use Rattle.std.proofs.lemmas.Bool.Decides.{nat_tests}
 use Rattle.css_model.specs.declared.Kind.{Kind}
-use Rattle.css_model.specs.History.{Dialled, Accepted, History, Entry, Slept, Clock, is_sleep, asking_at, request_by}
-use Rattle.css_model.specs.History.{landed_answer, Address, Dialling, NotDialled, HungUp, Listening, Closed, Gone}
-use Rattle.css_model.specs.History.{Heard, Sent, request_in, NoneCame}
-use Rattle.css_companion.specs.Meanings.{kind_of, cii_text, ts_text, opens_ts, closes_ts, is_cii, is_ts, state_of}
+use Rattle.css_model.specs.History.{Dialled, Accepted, History, Entry, Slept, Clock, Address, Dialling, NotDialled}
+use Rattle.css_model.specs.History.{HungUp, Listening, Closed, Gone, Heard, Sent, request_in, NoneCame}
+use Rattle.css_companion.specs.Meanings.{kind_of, opens_ts, is_cii, is_ts, state_of}
 use Rattle.css_drive.specs.TvRan.{AreBelow, AreNumbered}
-use Rattle.css_drive_relay.specs.Places.{Facts, Progress, next_asked, telling, telling_if, without, Place}
-use Rattle.css_drive_relay.specs.Places.{after, progress_of, Begun, Called, after_dial, after_clock, Asked, Over}
-use Rattle.css_drive_relay.specs.Places.{all_open, without_first, hung_up, beginning, with_turn, Taken, Received}
-use Rattle.css_drive_relay.specs.Places.{Served, received, answering, Welcomed, welcomed, published, television_told}
-use Rattle.css_drive_relay.specs.Places.{is_kept, opened_if, Asking}
+use Rattle.css_drive_relay.specs.Places.{Facts, Progress, next_asked, telling, telling_if, without, Place, after}
+use Rattle.css_drive_relay.specs.Places.{progress_of, Begun, Called, after_dial, after_clock, Asked, Over, all_open}
+use Rattle.css_drive_relay.specs.Places.{without_first, hung_up, beginning, with_turn, Taken, Received, Served}
+use Rattle.css_drive_relay.specs.Places.{received, answering, Welcomed, welcomed, published, television_told, is_kept}
+use Rattle.css_drive_relay.specs.Places.{opened_if, Asking}
 use Rattle.css_drive_relay.specs.Standing.{AreInOrder, KnowsPeers, named, Knows, Runs, Stops, HasRead, facts_in, stood}
-use Rattle.css_drive_relay.specs.Standing.{IsCounted, Stands, IsAt, HangsUp, Keeps, Came, visiting}
+use Rattle.css_drive_relay.specs.Standing.{Stands, IsAt, HangsUp, Keeps, Came, visiting}
 use Rattle.css_model.specs.declared.Why.{Why}
 use Rattle.css_model.specs.Explains.{IsLawful}
 use Rattle.css_outside.specs.Outsides.{Counts, with_entries, clock_entries, sleep_entries}
 use Rattle.css_outside.specs.declared.calls.Clocked.{Clocked}
+use Rattle.css_relay.specs.Lending.{with_companion}
 use Rattle.css_relay.specs.Relays.{Relay, relayed_state}
-use Rattle.css_drive.specs.CompanionStanding.{Shown, Adds, Fails, asked_after, HasDialled, IsCut, dial_entries}
-use Rattle.css_drive.specs.CompanionStanding.{IsRefusal}
-use Rattle.css_drive.specs.Ends.{MayEnd, IsNetFault, CountsNetFault, CountsDialFaults}
+use Rattle.css_drive.specs.CompanionStanding as companions
+use Rattle.css_drive.specs.CompanionStanding.{Shown, Adds, Fails, asked_after, HasDialled, IsEarly, dial_entries}
+use Rattle.css_drive.specs.CompanionStanding.{IsEndBy, IsRefusal}
+use Rattle.css_drive.specs.Ends.{MayEnd, CountsNetFault, CountsDialFaults}
 use Rattle.css_drive.specs.Proper.{Due, Now, MayAdd, More, Dial, Ends, Empty, TakeDatagram}
 use Rattle.css_drive.specs.declared.driven.Driven.{Driven}
-use Rattle.css_drive.proofs.CompanionSteps.{told_more, counts_same, fault_ends, own_quiet}
+use Rattle.css_drive.proofs.CompanionSteps.{told_more, counts_same, fault_ends, own_quiet, IsOwn, knows_plain}
+use Rattle.css_drive.proofs.CompanionSteps.{knows_tried, lawful_plain, refusal_ends, refusal_own}
 use Rattle.css_drive_relay.specs.Ran.{CountsRelayRun}
 use Rattle.css_drive_relay.specs.Due.{due, due_at, due_for, final, from_hang_ups, from_taken, from_ask}
 use Rattle.css_drive_relay.specs.declared.live.Live.{Live}
 use Rattle.css_drive_relay.specs.declared.sessions.Visit.{Visit}
-use Rattle.css_drive_relay.specs.declared.config.RelayRun.{RelayRun}
+use Rattle.css_drive_relay.specs.declared.plan.Plan.{Plan}
 use Rattle.css_drive.specs.CompanionDue.{place, refusal_of, end_by}
 use Rattle.css_cii.specs.declared.state.State.{State}
 use Rattle.css_outside.specs.Faults.{HasRisen}
 use Rattle.css_drive.specs.CompanionTurns.{goes_on, is_late, is_asking}
-use Rattle.css_drive.proofs.CompanionEnds.{never_late}
-use Rattle.css_drive.proofs.CompanionEnds.{no_entries}
+use Rattle.css_drive.proofs.CompanionEnds.{early_dials, never_late, no_entries}
 use Rattle.css_outside.specs.Limits.{IsLimit, most_turns}
 use Rattle.css_outside.specs.declared.limit.Limit.{Limit}
 use Rattle.css_outside.specs.declared.limit.Limit.TheVariants.{Turns, Seconds}
 use Rattle.css_model.specs.WallClock.{Local}
-use Rattle.css_companion.specs.Standing.{StandsFor, own_of}
+use Rattle.css_companion.specs.Standing.{Companion, StandsFor, own_of}
+use Rattle.css_companion.specs.declared.config.CompanionConfig.{CompanionConfig}
+use Rattle.css_drive.specs.declared.companion_live.Live.{Live as Own}
 use Rattle.css_relay.specs.Answers.{Ticket, received_after, answered_after, datagram_of}
 use Rattle.css_relay.specs.declared.fault.RelayFault.{RelayFault}
-use Rattle.css_drive.proofs.CompanionSteps.{lawful_plain, refusal_ends, refusal_own}
 use Rattle.css_sessions.specs.Kept.{difference_text}
 use Rattle.css_companion.specs.declared.fault.CompanionFault.{CompanionFault}
 use Rattle.css_drive_relay.specs.Told.{relayed}
 use Rattle.css_model.specs.declared.Kind.TheVariants as kind
-use Rattle.css_companion.proofs.Telling as telling
 use Rattle.css_drive.specs.declared.driven.Driven.TheVariants as driven
 use Rattle.css_model.specs.declared.Why.TheVariants as why
 use Rattle.css_drive_relay.specs.Places as places
@@ -84,8 +85,7 @@ pub unused : (n : ℕ) (h : History) (peer : ℕ) → AreInOrder n h → n ≤ p
 unused n [] peer o le = refl
 unused n (Dialled k q ∷ older) peer o le =
     let lt = o.0 in
-    ap (λ b. option_or (cond b (Some k) None) (kind_of peer older)) (ne_eqb q peer (λ e. omega (arith, lt, le, e)))
-    ∙ unused q older peer o.1 (omega (arith, lt, le))
+    let none = unused q older peer o.1 (omega (arith, lt, le)) in grind (arith, nat_tests, lt, le, none)
 unused n (Accepted q k ∷ older) peer o le = let lt = o.0 in unused q older peer o.1 (omega (arith, lt, le))
 unused n (_ ∷ older) peer o le = unused n older peer o le
 
@@ -95,12 +95,7 @@ pub undialled : (n : ℕ) (h : History) (peer : ℕ) → AreInOrder n h → Came
 undialled n [] peer o c = absurd c
 undialled n (Dialled k q ∷ older) peer o c =
     let lt = o.0 in
-    let x = undialled q older peer o.1 c in
-    let less = x.0 in (
-      omega (arith, lt, less),
-      ap (λ b. option_or (cond b (Some k) None) (kind_of peer older)) (ne_eqb q peer (λ e. omega (arith, less, e)))
-          ∙ x.1,
-    )
+    let x = undialled q older peer o.1 c in grind (arith, nat_tests, lt, x)
 undialled n (Accepted q k ∷ older) peer o (inl e) =
     let lt = o.0 in (omega (arith, lt, e), unused q older peer o.1 (omega (arith, e)))
 undialled n (Accepted q k ∷ older) peer o (inr c) =
@@ -112,16 +107,13 @@ undialled n (_ ∷ older) peer o c = undialled n older peer o c
 -- ---- sessions that places name
 module _ (P : ℕ → Type 0) where
   pub all_next : (o : Option ℕ) (peers : List ℕ) → All P peers → All P (named (next_asked o peers))
-  all_next None peers all = all
-  all_next (Some p) peers all = All-nil P
+  all_next o peers all = let none = All-nil P in grind (arith, all, none)
 
   pub all_telling : (text left : List ℕ) (f : Facts) → All P left → All P f.peers → All P (named (telling text left f))
-  all_telling text [] f all peers = peers
-  all_telling text (p ∷ ps) f all peers = all
+  all_telling text left f all peers = grind (arith, all, peers)
 
   pub all_telling_if : (text : Option (List ℕ)) (f : Facts) → All P f.peers → All P (named (telling_if text f))
-  all_telling_if None f peers = peers
-  all_telling_if (Some text) f peers = all_telling text f.peers f peers peers
+  all_telling_if text f peers = grind (arith, peers)
 
   pub all_without : (peer : ℕ) (peers : List ℕ) → All P peers → All P (without peer peers)
   all_without peer = All-filter (λ other. not (other == peer)) P
@@ -133,24 +125,8 @@ unnamed history place e x =
     (x.0, subst (λ (xs : List ℕ). All (Came history) xs) (sym e) (All-nil (Came history)), x.2)
 
 -- ---- what the relay knows
--- an entry that tells it nothing
-pub knows_plain : {run : RelayRun} {relay : Relay} {history : History} → Knows run relay history → (entry : Entry)
-    → is_sleep entry ≡ false → asking_at entry ≡ None → request_by entry ≡ None → landed_answer entry history ≡ None
-    → cii_text entry history ≡ None → ts_text entry history ≡ None
-    → (opens_ts entry || closes_ts entry history) ≡ false → Knows run relay (entry ∷ history)
-knows_plain {run} {relay} {history} k entry awake asks sends lands cii ts end = record {
-  stands = telling.stands_aside relay.companion history entry k.stands (record {
-    client = record { awake = awake; asks_none = asks; sends_none = sends; lands_none = lands };
-    no_cii = cii;
-    no_ts = ts;
-    no_edge = end;
-  });
-  own = k.own;
-  wc_url = k.wc_url;
-}
-
-pub lawful : {run : RelayRun} {relay : Relay} {history : History} → Knows run relay history → IsLawful history
-lawful k = k.stands.client.lawful
+pub lawful : {plan : Plan} {relay : Relay} {history : History} → Knows plan relay history → IsLawful history
+lawful k = k.companion.stands.client.lawful
 
 -- entries that tell it nothing, and bring no peer
 abbrev pub IsAside : History → Entry → Type 0
@@ -165,33 +141,47 @@ IsAside h (Closed peer) = is_ts (kind_of peer h) ≡ false
 IsAside h (Gone peer) = is_ts (kind_of peer h) ≡ false
 IsAside h _ = Unit {0}
 
-module _ {run : RelayRun} {relay : Relay} {history : History} (k : Knows run relay history) where
-  pub aside : (entry : Entry) → IsAside history entry → Knows run relay (entry ∷ history)
-  aside Slept is = absurd is
-  aside (Clock why.Ask reading) is = absurd is
-  aside (Clock why.Land reading) is = absurd is
-  aside (Dialled kind peer) is = absurd is
-  aside (Accepted peer kind) is = absurd is
-  aside (Sent peer bytes) is =
-      knows_plain k (Sent peer bytes) refl refl
-      (ap (λ (o : Option Message). option_map (λ message. message.originate) o) is) refl refl refl refl
-  aside (Heard peer bytes) is =
-      knows_plain k (Heard peer bytes) refl refl refl refl (ap (λ o. cond (is_cii o) (Some bytes) None) is)
-      (ap (λ o. cond (is_ts o) (Some bytes) None) is) refl
-  aside (Closed peer) is = knows_plain k (Closed peer) refl refl refl refl refl refl is
-  aside (Gone peer) is = knows_plain k (Gone peer) refl refl refl refl refl refl is
-  aside entry is = knows_plain k entry refl refl refl refl refl refl refl
+module _ {plan : Plan} {relay : Relay} {history : History} (k : Knows plan relay history) where
+  -- what its companion learns
+  pub learns : {is : Companion} {later : History} → ((own : CompanionConfig)
+      → companions.Knows own relay.companion history → companions.Knows own is later)
+      → Knows plan (with_companion relay is) later
+  learns learn = record { companion = learn plan.run.companion k.companion; wc_url = k.wc_url }
+
+  pub aside : (entry : Entry) → IsAside history entry → Knows plan relay (entry ∷ history)
+  aside entry is = record { companion = by entry is; wc_url = k.wc_url }
+    where
+      by : (entry : Entry) → IsAside history entry → companions.Knows plan.run.companion relay.companion (entry ∷ history)
+      by Slept is = absurd is
+      by (Clock why.Ask reading) is = absurd is
+      by (Clock why.Land reading) is = absurd is
+      by (Dialled kind peer) is = absurd is
+      by (Accepted peer kind) is = absurd is
+      by (Sent peer bytes) is =
+          knows_plain (Sent peer bytes) k.companion refl refl
+          (ap (λ (o : Option Message). option_map (λ message. message.originate) o) is) refl refl refl refl
+      by (Heard peer bytes) is =
+          knows_plain (Heard peer bytes) k.companion refl refl refl refl
+          (ap (λ o. cond (is_cii o) (Some bytes) None) is) (ap (λ o. cond (is_ts o) (Some bytes) None) is) refl
+      by (Closed peer) is = knows_plain (Closed peer) k.companion refl refl refl refl refl refl is
+      by (Gone peer) is = knows_plain (Gone peer) k.companion refl refl refl refl refl refl is
+      by entry is = knows_plain entry k.companion refl refl refl refl refl refl refl
+
+pub knows_read : {now next : Shown} {live later : Live} {w : Why} {clocked : Clocked} {plan : Plan} {h : History}
+    → HasRead now next live later w clocked → Knows plan live.relay h
+    → Knows plan later.relay (sleep_entries clocked.slept ++ h)
+knows_read {later = later} {clocked = clocked} {plan} {h} r k =
+    subst (λ (x : Live). Knows plan x.relay (sleep_entries clocked.slept ++ h)) (sym r.rest)
+    (learns k (λ own. r.read.known own h))
 
 still : (n : ℕ) (h : History) (entry : Entry) → IsAside h entry → AreInOrder n h → AreInOrder n (entry ∷ h)
-still n h (Dialled k peer) is o = absurd is
-still n h (Accepted peer k) is o = absurd is
-still n h entry is o = o
+still n h entry is o = grind (arith, is, o)
 
 -- ---- a fault
 -- a call of the outside failed, so the run ends
-pub stops_by_fault : {run : RelayRun} {start now next : Shown} {p : Progress} {history : History} {ended : Driven}
-    → Runs run start now p history → IsLawful history → Fails now next None ended → Stops run start next ended
-stops_by_fault {run} {start} {now} {next} {history = history} {ended} s l f =
+pub stops_by_fault : {plan : Plan} {start now next : Shown} {p : Progress} {history : History} {ended : Driven}
+    → Runs plan start now p history → IsLawful history → Fails now next None ended → Stops plan start next ended
+stops_by_fault {plan} {start} {now} {next} {history = history} {ended} s l f =
     let P : ℕ → Type 0 = λ n. CountsNetFault n next.counts.faults ended in
     record {
       ran = record {
@@ -200,48 +190,52 @@ stops_by_fault {run} {start} {now} {next} {history = history} {ended} s l f =
         proper = s.proper;
         lawful = l;
         numbered = s.numbered;
-        ends = fault_ends (due run history) ended f.end;
+        ends = fault_ends (due plan history) ended f.end;
       };
       counted = subst P s.faults f.counted;
+      quiet = fault_quiet ended f.end;
     }
+  where
+    fault_quiet : (ended : Driven) → IsEndBy None ended → ended ≢ driven.WriteFault
+    fault_quiet ended f e = grind (arith, f, e)
 
 -- ---- a call that is due
 -- the run came to this history, and at this place to what follows there
-module _ {run : RelayRun} {start now : Shown} {relay : Relay} {history : History} where
-  pub here : {p : Progress} → Stands run start now relay p history → (h : History) × Stands run start now relay p h
+module _ {plan : Plan} {start now : Shown} {relay : Relay} {history : History} where
+  pub here : {p : Progress} → Stands plan start now relay p history → (h : History) × Stands plan start now relay p h
   here s = (history, s)
 
   pub comes : {f : Facts} {place : Place} {Next : History → Place → Type 0}
-      → Stands run start now relay (record { facts = f; place = place }) history → Next history place
-      → (h : History) × (at : Place) × Stands run start now relay (record { facts = f; place = at }) h × Next h at
+      → Stands plan start now relay (record { facts = f; place = place }) history → Next history place
+      → (h : History) × (at : Place) × Stands plan start now relay (record { facts = f; place = at }) h × Next h at
   comes {place = place} s next = (history, place, s, next)
 
 -- the facts are the same
-pub stands_with : {run : RelayRun} {start now : Shown} {relay : Relay} {history : History} {f g : Facts}
-    (to : Facts → Place) → f ≡ g → Stands run start now relay (record { facts = g; place = to g }) history
-    → Stands run start now relay (record { facts = f; place = to f }) history
-stands_with {run} {start} {now} {relay} {history} to e s =
-    subst (λ (x : Facts). Stands run start now relay (record { facts = x; place = to x }) history) (sym e) s
+pub stands_with : {plan : Plan} {start now : Shown} {relay : Relay} {history : History} {f g : Facts}
+    (to : Facts → Place) → f ≡ g → Stands plan start now relay (record { facts = g; place = to g }) history
+    → Stands plan start now relay (record { facts = f; place = to f }) history
+stands_with {plan} {start} {now} {relay} {history} to e s =
+    subst (λ (x : Facts). Stands plan start now relay (record { facts = x; place = to x }) history) (sym e) s
 
 -- the same, seen as another progress
-pub stands_as : {run : RelayRun} {start now : Shown} {relay : Relay} {p : Progress} {history : History}
-    → Stands run start now relay p history → (q : Progress) → p ≡ q → Stands run start now relay q history
-stands_as {run} {start} {now} {relay} {history = history} s q e =
-    subst (λ x. Stands run start now relay x history) e s
+pub stands_as : {plan : Plan} {start now : Shown} {relay : Relay} {p : Progress} {history : History}
+    → Stands plan start now relay p history → (q : Progress) → p ≡ q → Stands plan start now relay q history
+stands_as {plan} {start} {now} {relay} {history = history} s q e =
+    subst (λ x. Stands plan start now relay x history) e s
 
 pub may_as : {d e : Due} → d ≡ e → (call : History) → MayAdd e call → MayAdd d call
 may_as is call = subst (λ (x : Due). MayAdd x call) (sym is)
 
-module _ {run : RelayRun} {start now next : Shown} {p : Progress} {history : History} where
+module _ {plan : Plan} {start now next : Shown} {p : Progress} {history : History} where
   -- its entries are added
-  pub runs_more : Runs run start now p history → (call : History) → MayAdd (due_for run history p) call
+  pub runs_more : Runs plan start now p history → (call : History) → MayAdd (due_for plan history p) call
       → next.told ≡ with_entries call now.told → next.counts.faults ≡ now.counts.faults
-      → (q : Progress) → progress_of run (call ++ history) ≡ q → KnowsPeers q (call ++ history)
-      → AreInOrder (next.counts.peers + 1) (call ++ history) → Runs run start next q (call ++ history)
+      → (q : Progress) → progress_of plan (call ++ history) ≡ q → KnowsPeers q (call ++ history)
+      → AreInOrder (next.counts.peers + 1) (call ++ history) → Runs plan start next q (call ++ history)
   runs_more s call may told faults q progress peers ordered = record {
     told = told_more start.told now.told next.told call history s.told told;
     faults = faults ∙ s.faults;
-    proper = More call (may_as (ap (due_for run history) s.progress) call may) s.proper;
+    proper = More call (may_as (ap (due_for plan history) s.progress) call may) s.proper;
     progress = progress;
     peers = peers;
     ordered = ordered;
@@ -249,22 +243,22 @@ module _ {run : RelayRun} {start now next : Shown} {p : Progress} {history : His
   }
 
   -- one entry is added
-  pub runs_on : Runs run start now p history → (entry : Entry) → MayAdd (due_for run history p) (entry ∷ [])
+  pub runs_on : Runs plan start now p history → (entry : Entry) → MayAdd (due_for plan history p) (entry ∷ [])
       → (AreInOrder (now.counts.peers + 1) history → AreInOrder (now.counts.peers + 1) (entry ∷ history))
-      → (KnowsPeers p history → KnowsPeers (after run entry history p) (entry ∷ history)) → Adds now next (entry ∷ [])
-      → Runs run start next (after run entry history p) (entry ∷ history)
+      → (KnowsPeers p history → KnowsPeers (after plan entry history p) (entry ∷ history)) → Adds now next (entry ∷ [])
+      → Runs plan start next (after plan entry history p) (entry ∷ history)
   runs_on s entry may in_order peers a =
-      runs_more s (entry ∷ []) may a.told (ap {A = Counts} (λ x. x.faults) a.same) (after run entry history p)
-      (ap (after run entry history) s.progress) (peers s.peers)
+      runs_more s (entry ∷ []) may a.told (ap {A = Counts} (λ x. x.faults) a.same) (after plan entry history p)
+      (ap (after plan entry history) s.progress) (peers s.peers)
       (subst (λ (x : Counts). AreInOrder (x.peers + 1) (entry ∷ history)) (sym a.same) (in_order s.ordered))
 
-module _ {run : RelayRun} {start now : Shown} {relay : Relay} {p : Progress} {history : History}
-    (s : Stands run start now relay p history) (entry : Entry) (may : MayAdd (due_for run history p) (entry ∷ []))
+module _ {plan : Plan} {start now : Shown} {relay : Relay} {p : Progress} {history : History}
+    (s : Stands plan start now relay p history) (entry : Entry) (may : MayAdd (due_for plan history p) (entry ∷ []))
     (is : IsAside history entry)
-    (peers : KnowsPeers p history → KnowsPeers (after run entry history p) (entry ∷ history)) where
+    (peers : KnowsPeers p history → KnowsPeers (after plan entry history p) (entry ∷ history)) where
   -- and it tells the relay nothing
   pub stands_on : {next : Shown} → Adds now next (entry ∷ [])
-      → Stands run start next relay (after run entry history p) (entry ∷ history)
+      → Stands plan start next relay (after plan entry history p) (entry ∷ history)
   stands_on a = record {
     runs = runs_on s.runs entry may (still (now.counts.peers + 1) history entry is) peers a;
     knows = aside s.knows entry is;
@@ -273,23 +267,31 @@ module _ {run : RelayRun} {start now : Shown} {relay : Relay} {p : Progress} {hi
   -- or the call failed, and a function ends with it
   pub made : (next : Shown) (result : Result (Unit {0}) Driven)
       → MatchResult result (λ _. Adds now next (entry ∷ [])) (Fails now next None)
-      → MatchResult result (λ _. (h : History) × Stands run start next relay (after run entry history p) h)
-      (Stops run start next)
+      → MatchResult result (λ _. (h : History) × Stands plan start next relay (after plan entry history p) h)
+      (Stops plan start next)
   made next (Ok done) a = (_, stands_on a)
   made next (Err ended) f = stops_by_fault s.runs (lawful s.knows) f
 
 -- ---- the clock
-module _ {run : RelayRun} {start now next : Shown} {live later : Live} {place : Place} {history : History} {w : Why}
+pub read_facts : {now next : Shown} {live later : Live} {w : Why} {clocked : Clocked}
+    → HasRead now next live later w clocked
+    → facts_in later ≡ record (facts_in live) { asked = asked_after clocked.slept live.own.asked }
+read_facts {live = live} {later} {clocked = clocked} r =
+    ap (λ x. facts_in x) r.rest
+    ∙ ap {A = Own} {B = Facts} (λ x. facts_in (record live { own = x; relay = later.relay })) r.read.only
+
+module _ {plan : Plan} {start now next : Shown} {live later : Live} {place : Place} {history : History} {w : Why}
     {clocked : Clocked} where
-  pub runs_read : Runs run start now (stood live place) history → due_at run (facts_in live) history place ≡ Now w
+  pub runs_read : Runs plan start now (stood live place) history → due_at plan (facts_in live) history place ≡ Now w
       → HasRead now next live later w clocked → (q : Progress)
-      → after_clock run w clocked.reading (sleep_entries clocked.slept ++ history) (stood later place) ≡ q
+      → after_clock plan w clocked.reading (sleep_entries clocked.slept ++ history) (stood later place) ≡ q
       → (KnowsPeers (stood later place) history → KnowsPeers q history)
-      → Runs run start next q (clock_entries w clocked ++ history)
+      → Runs plan start next q (clock_entries w clocked ++ history)
   runs_read s is-due r q goes peers =
-      runs_more s (clock_entries w clocked) (may_as is-due (clock_entries w clocked) (clocked, refl)) r.told r.faults q
-      (by clocked.slept ∙ ap (λ (f : Facts). after_clock run w clocked.reading (sleep_entries clocked.slept ++ history)
-      (record { facts = f; place = place })) (sym r.only) ∙ goes)
+      runs_more s (clock_entries w clocked) (may_as is-due (clock_entries w clocked) (clocked, refl)) r.read.told
+      r.read.faults q
+      (by clocked.slept ∙ ap (λ (f : Facts). after_clock plan w clocked.reading (sleep_entries clocked.slept ++ history)
+      (record { facts = f; place = place })) (sym (read_facts r)) ∙ goes)
       (elim clocked.slept as (λ slept. KnowsPeers q (entries slept)) [ true ↦ known | false ↦ known ])
       (elim clocked.slept as (λ slept. AreInOrder (next.counts.peers + 1) (entries slept))
       [ true ↦ in_order | false ↦ in_order ])
@@ -297,58 +299,59 @@ module _ {run : RelayRun} {start now next : Shown} {live later : Live} {place : 
       entries : Bool → History
       entries slept = clock_entries w (record { reading = clocked.reading; slept = slept }) ++ history
 
-      by : (slept : Bool) → progress_of run (entries slept)
-          ≡ after_clock run w clocked.reading (sleep_entries slept ++ history)
+      by : (slept : Bool) → progress_of plan (entries slept)
+          ≡ after_clock plan w clocked.reading (sleep_entries slept ++ history)
           (record { facts = record (facts_in live) { asked = asked_after slept live.own.asked }; place = place })
-      by true = ap (λ (x : Progress). after_clock run w clocked.reading (Slept ∷ history)
+      by true = ap (λ (x : Progress). after_clock plan w clocked.reading (Slept ∷ history)
           (record { facts = record x.facts { asked = None }; place = x.place })) s.progress
-      by false = ap (after_clock run w clocked.reading history) s.progress
+      by false = ap (after_clock plan w clocked.reading history) s.progress
 
       known : KnowsPeers q history
       known =
-          peers (subst (λ (f : Facts). KnowsPeers (record { facts = f; place = place }) history) (sym r.only) s.peers)
+          peers (subst (λ (f : Facts). KnowsPeers (record { facts = f; place = place }) history) (sym (read_facts r))
+          s.peers)
 
       in_order : AreInOrder (next.counts.peers + 1) history
-      in_order = subst (λ (n : ℕ). AreInOrder (n + 1) history) (sym r.peers) s.ordered
+      in_order = subst (λ (n : ℕ). AreInOrder (n + 1) history) (sym r.read.peers) s.ordered
 
   -- and neither for a request nor for a landing
-  pub stands_read : Stands run start now live.relay (stood live place) history
-      → due_at run (facts_in live) history place ≡ Now w
+  pub stands_read : Stands plan start now live.relay (stood live place) history
+      → due_at plan (facts_in live) history place ≡ Now w
       → IsAside (sleep_entries clocked.slept ++ history) (Clock w clocked.reading)
       → HasRead now next live later w clocked → (q : Progress)
-      → after_clock run w clocked.reading (sleep_entries clocked.slept ++ history) (stood later place) ≡ q
+      → after_clock plan w clocked.reading (sleep_entries clocked.slept ++ history) (stood later place) ≡ q
       → (KnowsPeers (stood later place) history → KnowsPeers q history)
-      → Stands run start next later.relay q (clock_entries w clocked ++ history)
+      → Stands plan start next later.relay q (clock_entries w clocked ++ history)
   stands_read s is-due none r q goes peers = record {
     runs = runs_read s.runs is-due r q goes peers;
-    knows = aside (r.known run history s.knows) (Clock w clocked.reading) none;
+    knows = aside (knows_read r s.knows) (Clock w clocked.reading) none;
   }
 
-module _ {run : RelayRun} {start now mid : Shown} {live later : Live} {history : History} {clocked : Clocked} where
+module _ {plan : Plan} {start now mid : Shown} {live later : Live} {history : History} {clocked : Clocked} where
   -- for a request of the relay's own
-  pub asks : {place : Place} → Runs run start now (stood live place) history
-      → due_at run (facts_in live) history place ≡ from_ask run (facts_in live) history
-      → (peer : ℕ) → live.own.wc ≡ Some peer → is_asking run.ask_every live.own.turn live.own.asked ≡ true
+  pub asks : {place : Place} → Runs plan start now (stood live place) history
+      → due_at plan (facts_in live) history place ≡ from_ask plan (facts_in live) history
+      → (peer : ℕ) → live.own.wc ≡ Some peer → is_asking plan.run.ask_every live.own.turn live.own.asked ≡ true
       → HasRead now mid live later why.Ask clocked
-      → Runs run start mid (stood later (Asking clocked.reading)) (clock_entries why.Ask clocked ++ history)
+      → Runs plan start mid (stood later (Asking clocked.reading)) (clock_entries why.Ask clocked ++ history)
   asks s is-due peer some time r =
       runs_read s
       (is-due ∙ ap₂ (λ (o : Option ℕ) (c : Bool). cond (is_some o && c) (Now why.Ask) TakeDatagram) some time) r
       (stood later (Asking clocked.reading)) refl (unnamed history (Asking clocked.reading) refl)
 
   -- for a landing
-  pub lands : {peer : ℕ} {bytes : List ℕ} → Runs run start now (stood live (Taken peer bytes)) history
+  pub lands : {peer : ℕ} {bytes : List ℕ} → Runs plan start now (stood live (Taken peer bytes)) history
       → is_some (request_in bytes) ≡ false → HasRead now mid live later why.Land clocked
-      → Runs run start mid (stood later Served) (clock_entries why.Land clocked ++ history)
+      → Runs plan start mid (stood later Served) (clock_entries why.Land clocked ++ history)
   lands s none r =
       runs_read s (ap from_taken none) r (stood later Served) refl (unnamed history Served refl)
 
 -- ---- ends
 -- the end is due, or memory is wanting
-pub stops_here : {run : RelayRun} {start now : Shown} {p : Progress} {history : History}
-    → Runs run start now p history → IsLawful history → (ended : Driven) → (IsNetFault ended → ⊥)
-    → MayEnd (due_for run history p) ended → Stops run start now ended
-stops_here {run} {start} {now} {history = history} s l ended never ends =
+pub stops_here : {plan : Plan} {start now : Shown} {p : Progress} {history : History}
+    → Runs plan start now p history → IsLawful history → (ended : Driven) → IsOwn ended
+    → MayEnd (due_for plan history p) ended → Stops plan start now ended
+stops_here {plan} {start} {now} {history = history} s l ended own ends =
     let P : Due → Type 0 = λ x. MayEnd x ended in
     record {
       ran = record {
@@ -357,16 +360,17 @@ stops_here {run} {start} {now} {history = history} s l ended never ends =
         proper = s.proper;
         lawful = l;
         numbered = s.numbered;
-        ends = subst P (sym (ap (due_for run history) s.progress)) ends;
+        ends = subst P (sym (ap (due_for plan history) s.progress)) ends;
       };
-      counted = counts_same start.counts.faults now.counts.faults ended never s.faults;
+      counted = counts_same start.counts.faults now.counts.faults ended (own_quiet ended own) s.faults;
+      quiet = λ e. subst IsOwn e own;
     }
 
-pub stops_by_memory : {run : RelayRun} {start now : Shown} {p : Progress} {history : History}
-    → Runs run start now p history → IsLawful history → (ended : Driven) → ended ≡ driven.Memory
-    → Stops run start now ended
-stops_by_memory {run} {start} {now} s l ended e =
-    subst (λ (x : Driven). Stops run start now x) (sym e) (stops_here s l driven.Memory (λ x. x) tt)
+pub stops_by_memory : {plan : Plan} {start now : Shown} {p : Progress} {history : History}
+    → Runs plan start now p history → IsLawful history → (ended : Driven) → ended ≡ driven.Memory
+    → Stops plan start now ended
+stops_by_memory {plan} {start} {now} s l ended e =
+    subst (λ (x : Driven). Stops plan start now x) (sym e) (stops_here s l driven.Memory tt tt)
 
 -- ---- dials
 -- how far the run is once a dial was tried
@@ -374,8 +378,8 @@ abbrev pub called : Kind → Option ℕ → Facts → Progress
 called k None f = record { facts = f; place = Called k }
 called k (Some peer) f = record { facts = after_dial k peer f; place = Called k }
 
-module _ (live : Live) {run : RelayRun} {start now : Shown} {relay : Relay} {history : History} {at : Place}
-    (s : Stands run start now relay (stood live at) history) where
+module _ (live : Live) {plan : Plan} {start now : Shown} {relay : Relay} {history : History} {at : Place}
+    (s : Stands plan start now relay (stood live at) history) where
   -- a dial gave this peer, which no other has
   knows_dialled : (k : Kind) (q : ℕ) → now.counts.peers < q → opens_ts (Dialled k q) ≡ false
       → KnowsPeers (called k (Some q) (facts_in live)) (Dialled k q ∷ history)
@@ -394,16 +398,16 @@ module _ (live : Live) {run : RelayRun} {start now : Shown} {relay : Relay} {his
   )
   knows_dialled kind.Ts q lt opens = absurd (cc)
 
-  pub dialled : {next : Shown} (k : Kind) (to : Address) → due_at run (facts_in live) history at ≡ Dial k to
+  pub dialled : {next : Shown} (k : Kind) (to : Address) → due_at plan (facts_in live) history at ≡ Dial k to
       → ((q : ℕ) → opens_ts (Dialled k q) ≡ false) → (tried : Option ℕ) → HasDialled now next k to tried
-      → Stands run start next relay (called k tried (facts_in live)) (dial_entries k to tried ++ history)
+      → Stands plan start next relay (called k tried (facts_in live)) (dial_entries k to tried ++ history)
   dialled {next} k to is-due opens None d = record {
     runs = runs_more s.runs (NotDialled k ∷ Dialling k to ∷ []) (may_as is-due (NotDialled k ∷ Dialling k to ∷ [])
         (inr refl)) d.told d.faults (called k None (facts_in live))
-        (ap (λ (p : Progress). after run (NotDialled k) (Dialling k to ∷ history) p) s.runs.progress)
+        (ap (λ (p : Progress). after plan (NotDialled k) (Dialling k to ∷ history) p) s.runs.progress)
         (s.runs.peers.0, All-nil (Came history), s.runs.peers.2)
         (let later = d.later in in_order_later _ (next.counts.peers + 1) history s.runs.ordered (omega (arith, later)));
-    knows = aside (aside s.knows (Dialling k to) tt) (NotDialled k) tt;
+    knows = record { companion = knows_tried k to None tt s.knows.companion; wc_url = s.knows.wc_url };
   }
   dialled {next} k to is-due opens (Some q) d =
       let lt = d.peer.0 in
@@ -411,18 +415,17 @@ module _ (live : Live) {run : RelayRun} {start now : Shown} {relay : Relay} {his
       record {
         runs = runs_more s.runs (Dialled k q ∷ Dialling k to ∷ []) (may_as is-due (Dialled k q ∷ Dialling k to ∷ [])
             (inl (q, refl))) d.told d.faults (called k (Some q) (facts_in live))
-            (ap (λ (p : Progress). after run (Dialled k q) (Dialling k to ∷ history) p) s.runs.progress)
+            (ap (λ (p : Progress). after plan (Dialled k q) (Dialling k to ∷ history) p) s.runs.progress)
             (knows_dialled k q (omega (arith, lt)) (opens q))
             (omega (arith, le), in_order_later _ q history s.runs.ordered (omega (arith, lt)));
-        knows = knows_plain (aside s.knows (Dialling k to) tt) (Dialled k q) refl refl refl refl refl refl
-            (ap (λ b. b || false) (opens q));
+        knows = record { companion = knows_tried k to (Some q) (opens q) s.knows.companion; wc_url = s.knows.wc_url };
       }
 
-module _ {run : RelayRun} {start now : Shown} {live : Live} where
+module _ {plan : Plan} {start now : Shown} {live : Live} where
   -- the turns are over, so all open sessions are to be hung up
-  pub hangs_all : {history : History} → Stands run start now live.relay (stood live (Asked [])) history
-      → goes_on run.limit live.own.first live.own.turn live.own.made ≡ false
-      → HangsUp run start now live (all_open (facts_in live))
+  pub hangs_all : {history : History} → Stands plan start now live.relay (stood live (Asked [])) history
+      → goes_on plan.run.limit live.own.first live.own.turn live.own.made ≡ false
+      → HangsUp plan start now live (all_open (facts_in live))
   hangs_all {history} s enough = record {
     history = history;
     place = Asked [];
@@ -432,8 +435,8 @@ module _ {run : RelayRun} {start now : Shown} {live : Live} where
   }
 
   -- the first one was
-  pub hung : {left : List ℕ} {next : Shown} → HangsUp run start now live left → {peer : ℕ} {rest : List ℕ}
-      → left ≡ peer ∷ rest → Adds now next (HungUp peer ∷ []) → HangsUp run start next live rest
+  pub hung : {left : List ℕ} {next : Shown} → HangsUp plan start now live left → {peer : ℕ} {rest : List ℕ}
+      → left ≡ peer ∷ rest → Adds now next (HungUp peer ∷ []) → HangsUp plan start next live rest
   hung {next = next} x {peer} {rest} is a =
       let goes : hung_up x.place (facts_in live) ≡ Over rest = x.after ∙ ap (λ xs. Over (without_first xs)) is in
       record {
@@ -449,23 +452,18 @@ module _ {run : RelayRun} {start now : Shown} {live : Live} where
 
   -- all of them were
   pub all_hung : {left : List ℕ} {ended : Driven} → ended ≡ final (facts_in live)
-      → HangsUp run start now live left → left ≡ [] → Stops run start now ended
+      → HangsUp plan start now live left → left ≡ [] → Stops plan start now ended
   all_hung e x none =
-      subst (λ (d : Driven). Stops run start now d) (sym e) (stops_here x.stands.runs (lawful x.stands.knows)
+      subst (λ (d : Driven). Stops plan start now d) (sym e) (stops_here x.stands.runs (lawful x.stands.knows)
       (final (facts_in live))
-      (cond_both (is_some live.own.cii || is_some live.own.wc) driven.Done (driven.Unreachable live.own.made)
-      (λ d. IsNetFault d → ⊥) (λ _ e. e) (λ _ e. e))
-      (cond_both (is_some live.own.cii || is_some live.own.wc) driven.Done (driven.Unreachable live.own.made)
-      (λ d. due_at run (facts_in live) x.history x.place ≡ Ends d
-      → MayEnd (due_at run (facts_in live) x.history x.place) d) (λ _ e. e) (λ _ e. e)
-      (x.next ∙ ap (from_hang_ups (final (facts_in live))) none)))
+      (grind arith) (let due = x.next ∙ ap (from_hang_ups (final (facts_in live))) none in grind (arith, due)))
 
 -- ---- loops
 -- these sessions are left to be visited
-pub visits : {run : RelayRun} {start now : Shown} (live : Live) (what : Visit) {left rest : List ℕ}
-    → IsAt (visiting what left) run start now live → left ≡ rest → IsAt (visiting what rest) run start now live
-visits {run} {start} {now} live what x e =
-    subst (λ (peers : List ℕ). IsAt (visiting what peers) run start now live) e x
+pub visits : {plan : Plan} {start now : Shown} (live : Live) (what : Visit) {left rest : List ℕ}
+    → IsAt (visiting what left) plan start now live → left ≡ rest → IsAt (visiting what rest) plan start now live
+visits {plan} {start} {now} live what x e =
+    subst (λ (peers : List ℕ). IsAt (visiting what peers) plan start now live) e x
 
 pub keeps_on : {T : Type 0} {old mid new : Counts} {before between now : Live} {result : Result T Driven}
     → Keeps old mid before between (Ok (tt {0})) → Keeps mid new between now result → Keeps old new before now result
@@ -474,43 +472,36 @@ keeps_on {old} {mid} {new} a b = record {
   dialled = λ e. a.dialled (b.dialled e);
   dials = omega (arith, a.dials, b.dials);
   floor = λ le. b.floor (a.floor le);
-  cut = b.cut;
+  early = b.early;
 }
 
 -- ---- what is counted
--- a run that is cut
-pub cut_so : (before now : ℕ) → before ≤ now → (ended : Driven) → IsCut ended → IsCounted before now ended
-cut_so before now le (driven.Unreachable n) c = absurd c
-cut_so before now le driven.WriteFault c = absurd c
-cut_so before now le _ c = (le, λ e. cc)
-
--- or one that made its turns, where a dial succeeded or one failed
+-- a run that made its turns, where a dial succeeded or one failed, or one that is cut
 pub ending_so : (f : Facts) (before now : ℕ) → before ≤ now
-    → (f.cii ≡ None → HasRisen before now) → (ended : Driven) → (ended ≡ final f) ⊎ IsCut ended
-    → IsCounted before now ended
+    → (f.cii ≡ None → HasRisen before now) → (ended : Driven) → (ended ≡ final f) ⊎ IsEarly ended
+    → CountsDialFaults before now ended
 ending_so f before now le tried ended (inl e) =
-    subst (λ (d : Driven). IsCounted before now d) (sym e) (by f.cii (is_some f.wc) tried)
+    subst (λ (d : Driven). CountsDialFaults before now d) (sym e) (by f.cii (is_some f.wc) tried)
   where
     by : (o : Option ℕ) (b : Bool) → (o ≡ None → HasRisen before now)
-        → IsCounted before now (cond (is_some o || b) driven.Done (driven.Unreachable f.turns))
-    by None true tried = (le, λ e. cc)
-    by None false tried = (tried refl, λ e. cc)
-    by (Some p) b tried = (le, λ e. cc)
-ending_so f before now le tried ended (inr c) = cut_so before now le ended c
+        → CountsDialFaults before now (cond (is_some o || b) driven.Done (driven.Unreachable f.turns))
+    by o b tried = grind (arith, le, tried)
+ending_so f before now le tried ended (inr early) = early_dials before now ended early le
 
 -- with what was counted before the turns
-pub counts : {before mid now : Counts} {ended : Driven} → CountsNetFault before.faults now.faults ended
-    → mid ≡ record before { faults = mid.faults } → IsCounted mid.dial_faults now.dial_faults ended
+pub counts : {plan : Plan} {start next : Shown} {before mid now : Counts} {ended : Driven}
+    → Stops plan start next ended → CountsNetFault before.faults now.faults ended
+    → mid ≡ record before { faults = mid.faults } → CountsDialFaults mid.dial_faults now.dial_faults ended
     → CountsRelayRun before now ended
-counts {now = now} {ended} faults e c = record {
+counts {now = now} {ended} stops faults e c = record {
   faults = faults;
-  dials = subst (λ (n : ℕ). CountsDialFaults n now.dial_faults ended) (ap {A = Counts} (λ x. x.dial_faults) e) c.0;
-  no_writes = c.1;
+  dials = subst (λ (n : ℕ). CountsDialFaults n now.dial_faults ended) (ap {A = Counts} (λ x. x.dial_faults) e) c;
+  no_writes = stops.quiet;
 }
 
 -- ---- the beginning
-pub at_first : (run : RelayRun) (now : Shown) → Runs run now now beginning []
-at_first run now = record {
+pub at_first : (plan : Plan) (now : Shown) → Runs plan now now beginning []
+at_first plan now = record {
   told = no_entries now.told;
   faults = refl;
   proper = Empty;
@@ -521,12 +512,12 @@ at_first run now = record {
 }
 
 -- the relay listens
-pub listens : {run : RelayRun} {now next : Shown} (live : Live) → Knows run live.relay []
-    → facts_in live ≡ beginning.facts → Adds now next (Listening run.host run.port ∷ [])
-    → Stands run now next live.relay (stood live (Asked [])) (Listening run.host run.port ∷ [])
-listens {run} {now} live k e a =
-    stands_with (λ f. Asked []) e (stands_on (record { runs = at_first run now; knows = k })
-    (Listening run.host run.port) refl tt (λ x. x) a)
+pub listens : {plan : Plan} {now next : Shown} (live : Live) → Knows plan live.relay []
+    → facts_in live ≡ beginning.facts → Adds now next (Listening plan.run.host plan.run.port ∷ [])
+    → Stands plan now next live.relay (stood live (Asked [])) (Listening plan.run.host plan.run.port ∷ [])
+listens {plan} {now} live k e a =
+    stands_with (λ f. Asked []) e (stands_on (record { runs = at_first plan now; knows = k })
+    (Listening plan.run.host plan.run.port) refl tt (λ x. x) a)
 
 -- ---- turns
 some_turns : (limit : Limit) → IsLimit limit → 1 ≤ most_turns limit
@@ -552,67 +543,68 @@ was_second limit range None made reading none last =
     absurd (never_late limit (Some reading) (Some reading) range refl last)
 
 -- the turn's reading was told, and it is the last by its time or isn't
-pub begun : {run : RelayRun} {start now next : Shown} {live later : Live} {history : History} {f : Facts}
-    {late last : Bool} {clocked : Clocked} → Stands run start now live.relay (stood live (Asked [])) history
-    → goes_on run.limit live.own.first live.own.turn live.own.made ≡ true → HasRead now next live later why.Turn clocked
-    → f ≡ with_turn clocked.reading (facts_in later) → late ≡ is_late run.limit f.first f.turn → late ≡ last
-    → Stands run start next later.relay (record { facts = f; place = cond last (Asked []) Begun })
+pub begun : {plan : Plan} {start now next : Shown} {live later : Live} {history : History} {f : Facts}
+    {late last : Bool} {clocked : Clocked} → Stands plan start now live.relay (stood live (Asked [])) history
+    → goes_on plan.run.limit live.own.first live.own.turn live.own.made ≡ true → HasRead now next live later why.Turn clocked
+    → f ≡ with_turn clocked.reading (facts_in later) → late ≡ is_late plan.run.limit f.first f.turn → late ≡ last
+    → Stands plan start next later.relay (record { facts = f; place = cond last (Asked []) Begun })
     (clock_entries why.Turn clocked ++ history)
-begun {run} {live = live} {later} {history} {f} {clocked = clocked} s on r e late is =
-    stands_as (stands_with (places.begun run) e
+begun {plan} {live = live} {later} {history} {f} {clocked = clocked} s on r e late is =
+    stands_as (stands_with (places.begun plan) e
     (stands_read s
     (ap (λ b. cond b (Now why.Turn) (from_hang_ups (final (facts_in live)) (all_open (facts_in live)))) on) tt r
-    _ refl (unnamed history (places.begun run (with_turn clocked.reading (facts_in later)))
-    (cond_both (is_late run.limit (Some (unwrap_or later.own.first clocked.reading)) (Some clocked.reading)) (Asked [])
+    _ refl (unnamed history (places.begun plan (with_turn clocked.reading (facts_in later)))
+    (cond_both (is_late plan.run.limit (Some (unwrap_or later.own.first clocked.reading)) (Some clocked.reading)) (Asked [])
     Begun (λ at. named at ≡ []) (λ _. refl) (λ _. refl))))) _
     (ap {B = Progress} (λ b. record { facts = f; place = cond b (Asked []) Begun }) (sym late ∙ is))
 
 -- ---- requests of others
 -- what the relay made of what it knew is what its own clock gives after the history
-known_as : {run : RelayRun} (later : Live) {is : Relay} {h : History} {R : Type 0} (of : Local → History → R)
-    (to : R → Place) {result : R} → Knows run is h
+known_as : {plan : Plan} (later : Live) {is : Relay} {h : History} {R : Type 0} (of : Local → History → R)
+    (to : R → Place) {result : R} → Knows plan is h
     → ((h : History) → StandsFor is.companion h → result ≡ of (own_of is.companion) h)
-    → ◌≡◌ {A = Progress} (stood later (to (of run.companion.local h))) (stood later (to result))
+    → ◌≡◌ {A = Progress} (stood later (to (of plan.run.companion.local h))) (stood later (to result))
 known_as later {h = h} of to k value =
-    ap (λ own. stood later (to (of own h))) (sym k.own) ∙ ap (λ x. stood later (to x)) (sym (value h k.stands))
+    ap (λ own. stood later (to (of own h))) (sym k.companion.local)
+    ∙ ap (λ x. stood later (to x)) (sym (value h k.companion.stands))
 
-module _ {run : RelayRun} {start now mid : Shown} {live later : Live} {history : History} {clocked : Clocked} where
+module _ {plan : Plan} {start now mid : Shown} {live later : Live} {history : History} {clocked : Clocked} where
   pub receives : {peer : ℕ} {bytes : List ℕ}
-      → Stands run start now live.relay (stood live (Taken peer bytes)) history
+      → Stands plan start now live.relay (stood live (Taken peer bytes)) history
       → is_some (request_in bytes) ≡ true → HasRead now mid live later why.Take clocked
       → (result : Result Ticket RelayFault)
       → ((h : History) → StandsFor later.relay.companion h
       → result ≡ received_after (own_of later.relay.companion) h clocked.reading bytes)
-      → Stands run start mid later.relay (stood later (received peer result))
+      → Stands plan start mid later.relay (stood later (received peer result))
       (clock_entries why.Take clocked ++ history)
   receives {peer} {bytes} s some r result value =
       stands_read s (ap from_taken some) tt r (stood later (received peer result))
       (known_as later (λ own h. received_after own h clocked.reading bytes) (received peer)
-      (r.known run history s.knows) value)
+      (knows_read r s.knows) value)
       (unnamed history (received peer result)
       (elim result as (λ x. named (received peer x) ≡ []) [ Err bad ↦ refl | Ok ticket ↦ refl ]))
 
   pub answers : {peer : ℕ} {ticket : Ticket}
-      → Stands run start now live.relay (stood live (Received peer ticket)) history
+      → Stands plan start now live.relay (stood live (Received peer ticket)) history
       → HasRead now mid live later why.Give clocked → (result : Result (List ℕ) RelayFault)
       → ((h : History) → StandsFor later.relay.companion h
       → result ≡ datagram_of (answered_after (own_of later.relay.companion) h clocked.reading ticket))
-      → Stands run start mid later.relay (stood later (answering peer result))
+      → Stands plan start mid later.relay (stood later (answering peer result))
       (clock_entries why.Give clocked ++ history)
   answers {peer} {ticket} s r result value =
       stands_read s refl tt r (stood later (answering peer result))
       (known_as later (λ own h. datagram_of (answered_after own h clocked.reading ticket)) (answering peer)
-      (r.known run history s.knows) value) (unnamed history (answering peer result)
+      (knows_read r s.knows) value) (unnamed history (answering peer result)
       (elim result as (λ x. named (answering peer x) ≡ []) [ Err bad ↦ refl | Ok bytes ↦ refl ]))
 
 -- ---- sessions that others open
-module _ (live : Live) {run : RelayRun} {start now next : Shown} {history : History} {relay : Relay}
-    (s : Stands run start now relay (stood live Served) history) (faults : next.counts.faults ≡ now.counts.faults) where
+module _ (live : Live) {plan : Plan} {start now next : Shown} {history : History} {relay : Relay}
+    (s : Stands plan start now relay (stood live Served) history) (faults : next.counts.faults ≡ now.counts.faults) where
   pub none_came : next.told ≡ with_entries (NoneCame ∷ []) now.told → next.counts.peers ≡ now.counts.peers
-      → Stands run start next relay (stood live (welcomed (facts_in live))) (NoneCame ∷ history)
+      → Stands plan start next relay (stood live (welcomed (facts_in live))) (NoneCame ∷ history)
   none_came told same = record {
     runs = runs_more s.runs (NoneCame ∷ []) (None, refl) told faults (stood live (welcomed (facts_in live)))
-        (ap (after run NoneCame history) s.runs.progress)
+        (ap (after plan NoneCame history) s.runs.progress)
         (s.runs.peers.0, all_next (Came history) live.own.cii_open live.peers.items s.runs.peers.0, s.runs.peers.2)
         (subst (λ (n : ℕ). AreInOrder (n + 1) history) (sym same) s.runs.ordered);
     knows = aside s.knows NoneCame tt;
@@ -620,14 +612,17 @@ module _ (live : Live) {run : RelayRun} {start now next : Shown} {history : Hist
 
   pub came : (peer : ℕ) (k : Kind) → next.told ≡ with_entries (Accepted peer k ∷ []) now.told
       → now.counts.peers < peer → next.counts.peers ≡ peer → (kept : Bool) → kept ≡ is_kept k (length live.peers.items)
-      → Stands run start next relay (opened_if kept peer (facts_in live)) (Accepted peer k ∷ history)
+      → Stands plan start next relay (opened_if kept peer (facts_in live)) (Accepted peer k ∷ history)
   came peer k told lt is kept e = record {
     runs = runs_more s.runs (Accepted peer k ∷ []) (Some (peer, k), refl) told faults
         (opened_if kept peer (facts_in live))
-        (ap (after run (Accepted peer k) history) s.runs.progress
+        (ap (after plan (Accepted peer k) history) s.runs.progress
         ∙ ap (λ b. opened_if b peer (facts_in live)) (sym e)) (peers kept)
         (omega (arith, is), in_order_later (now.counts.peers + 1) peer history s.runs.ordered (omega (arith, lt)));
-    knows = knows_plain s.knows (Accepted peer k) refl refl refl refl refl refl refl;
+    knows = record {
+      companion = knows_plain (Accepted peer k) s.knows.companion refl refl refl refl refl refl refl;
+      wc_url = s.knows.wc_url;
+    };
   }
     where
       New : ℕ → Type 0
@@ -642,8 +637,8 @@ module _ (live : Live) {run : RelayRun} {start now next : Shown} {history : Hist
           (All-append New live.peers.items (peer ∷ []) all own, own, s.runs.peers.2)
       peers false = (all, All-nil New, s.runs.peers.2)
 
-module _ {run : RelayRun} {start now : Shown} {p : Progress} {history : History}
-    (s : Runs run start now p history) where
+module _ {plan : Plan} {start now : Shown} {p : Progress} {history : History}
+    (s : Runs plan start now p history) where
   -- the session that a place names first was not dialled
   pub its_none : {peer : ℕ} {left : List ℕ} → named p.place ≡ peer ∷ left → kind_of peer history ≡ None
   its_none {peer} {left} e =
@@ -655,12 +650,12 @@ module _ {run : RelayRun} {start now : Shown} {p : Progress} {history : History}
   its_kind e =
       let P : Option ℕ → Type 0 = λ o. IfSome o (λ peer. kind_of peer history ≡ Some kind.Cii) in subst P e s.peers.2
 
-module _ (live : Live) {run : RelayRun} {start now : Shown} {history : History} {relay : Relay} where
+module _ (live : Live) {plan : Plan} {start now : Shown} {history : History} {relay : Relay} where
   -- ---- publishing
   -- what is published is the state and the change that the variables have
-  pub publishes : {state found : State} → Stands run start now relay (published state (facts_in live)) history
+  pub publishes : {state found : State} → Stands plan start now relay (published state (facts_in live)) history
       → found ≡ state → (change : Option (List ℕ)) → change ≡ difference_text live.state found
-      → Stands run start now relay (record {
+      → Stands plan start now relay (record {
         facts = record (facts_in live) { state = found };
         place = telling_if change (record (facts_in live) { state = found });
       }) history
@@ -674,20 +669,20 @@ module _ (live : Live) {run : RelayRun} {start now : Shown} {history : History} 
       ∙ ap (λ (o : Option (List ℕ)). at o found) (sym is))
 
   -- ---- the television's session, where it is open and where it isn't
-  pub asked_next : Stands run start now relay (stood live (welcomed (facts_in live))) history → (o : Option ℕ)
-      → live.own.cii_open ≡ o → Stands run start now relay (stood live (next_asked o live.peers.items)) history
+  pub asked_next : Stands plan start now relay (stood live (welcomed (facts_in live))) history → (o : Option ℕ)
+      → live.own.cii_open ≡ o → Stands plan start now relay (stood live (next_asked o live.peers.items)) history
   asked_next s o e =
       stands_as s (stood live (next_asked o live.peers.items)) (ap (λ x. stood live (next_asked x live.peers.items)) e)
 
 -- ---- the television
-module _ (live : Live) {run : RelayRun} {start now next : Shown} {history : History} {relay : Relay} (peer : ℕ)
-    (s : Stands run start now relay (stood live (Welcomed peer)) history) where
+module _ (live : Live) {plan : Plan} {start now next : Shown} {history : History} {relay : Relay} (peer : ℕ)
+    (s : Stands plan start now relay (stood live (Welcomed peer)) history) where
   -- its text was heard, and is refused or not
   heard : (bytes : List ℕ) → Adds now next (Heard peer bytes ∷ [])
-      → Runs run start next (television_told (refusal_of (Some bytes) history)
-      (relayed run (Heard peer bytes ∷ history)) (facts_in live)) (Heard peer bytes ∷ history)
+      → Runs plan start next (television_told (refusal_of (Some bytes) history)
+      (relayed plan (Heard peer bytes ∷ history)) (facts_in live)) (Heard peer bytes ∷ history)
   heard bytes =
-      let state : State = relayed run (Heard peer bytes ∷ history) in
+      let state : State = relayed plan (Heard peer bytes ∷ history) in
       runs_on s.runs (Heard peer bytes) (session.Text bytes, refl) (λ o. o) (λ x.
       let told = all_telling_if (Came history) (difference_text live.state state)
       (record (facts_in live) { state = state }) x.0 in
@@ -697,32 +692,32 @@ module _ (live : Live) {run : RelayRun} {start now next : Shown} {history : Hist
 
   -- it ends the run
   pub refused : (bytes : List ℕ) → Adds now next (Heard peer bytes ∷ []) → (ended : Driven)
-      → IsRefusal (refusal_of (Some bytes) history) ended → Stops run start next ended
+      → IsRefusal (refusal_of (Some bytes) history) ended → Stops plan start next ended
   refused bytes a ended r =
       stops_here (heard bytes a)
       (lawful_plain (Heard peer bytes) history (lawful s.knows) refl refl) ended
-      (own_quiet ended (refusal_own (refusal_of (Some bytes) history) ended r))
+      (refusal_own (refusal_of (Some bytes) history) ended r)
       (ends (refusal_of (Some bytes) history) r)
     where
       state : State
-      state = relayed run (Heard peer bytes ∷ history)
+      state = relayed plan (Heard peer bytes ∷ history)
 
       ends : (x : Option CompanionFault) → IsRefusal x ended
-          → MayEnd (due_for run (Heard peer bytes ∷ history) (television_told x state (facts_in live))) ended
+          → MayEnd (due_for plan (Heard peer bytes ∷ history) (television_told x state (facts_in live))) ended
       ends None r =
-          refusal_ends None (due_for run (Heard peer bytes ∷ history) (published state (facts_in live))) ended r
+          refusal_ends None (due_for plan (Heard peer bytes ∷ history) (published state (facts_in live))) ended r
       ends (Some fault) r = refusal_ends (Some fault) (Ends (end_by fault)) ended r
 
   -- or it is taken in, and the relay publishes
   pub taken_in : (bytes : List ℕ) → Adds now next (Heard peer bytes ∷ []) → refusal_of (Some bytes) history ≡ None
-      → (later : Relay) → Knows run later (Heard peer bytes ∷ history)
-      → Stands run start next later (published (relayed_state later.wc_url later.companion.state) (facts_in live))
+      → (later : Relay) → Knows plan later (Heard peer bytes ∷ history)
+      → Stands plan start next later (published (relayed_state later.wc_url later.companion.state) (facts_in live))
       (Heard peer bytes ∷ history)
   taken_in bytes a accepts later k =
       stands_as (record { runs = heard bytes a; knows = k })
       (published (relayed_state later.wc_url later.companion.state) (facts_in live))
-      (ap (λ (x : Option CompanionFault). television_told x (relayed run (Heard peer bytes ∷ history))
+      (ap (λ (x : Option CompanionFault). television_told x (relayed plan (Heard peer bytes ∷ history))
       (facts_in live)) accepts
       ∙ ap (λ (x : List ℕ). published (relayed_state x (state_of (Heard peer bytes ∷ history))) (facts_in live))
       (sym k.wc_url)
-      ∙ ap (λ (x : State). published (relayed_state later.wc_url x) (facts_in live)) (sym k.stands.state))
+      ∙ ap (λ (x : State). published (relayed_state later.wc_url x) (facts_in live)) (sym k.companion.stands.state))

@@ -1,7 +1,7 @@
 -- What each session of a relay was told and is still to be told, over the calls of a proper run.
 use Rattle.std.proofs.Common.{◌≡◌, ℕ, ◌≤◌, Bool, true, false, cond, eqb, List, [], ◌∷◌, ◌++◌, length, Option, Some}
 use Rattle.std.proofs.Common.{None, refl, sym, ap, subst, ◌∙◌, arith, ◌<◌, append_assoc, zero, suc}
-use Rattle.std.specs.Prelude.{◌||◌, ◌&&◌, unwrap_or}
+use Rattle.std.specs.Prelude.{◌||◌, ◌&&◌, unwrap_or, ⊤}
 use Rattle.std.proofs.lemmas.Bool.{cond_both}
 use Rattle.std.proofs.lemmas.Bool.Decides.{nat_tests}
 use Rattle.css_cii.specs.declared.state.State.{State}
@@ -10,24 +10,18 @@ use Rattle.css_sessions.specs.Told.{latest, with_text, cii_texts}
 use Rattle.css_drive.specs.TvTold.{lost, sent_to, is_gone}
 use Rattle.css_drive.proofs.TvTold.{none_there, numbered_rest}
 use Rattle.css_drive_relay.specs.Places.{Place, Facts, Progress, telling, telling_if, without, opened_if, published}
-use Rattle.css_drive_relay.specs.Places.{Asking, Greeting, Welcomed, Dropping, Telling, Asked, progress_of, is_kept}
-use Rattle.css_drive_relay.specs.Places.{next_asked}
+use Rattle.css_drive_relay.specs.Places.{Welcomed, Dropping, Asked, progress_of, is_kept}
 use Rattle.css_drive_relay.proofs.Follows.{waiting, text_at, IsToTell, Follows, Followed, followed, Fits, fits}
-use Rattle.css_drive_relay.proofs.Follows.{on_begun, on_hung_up, on_received, on_answered}
-use Rattle.css_drive_relay.specs.Told.{SessionStates, with_state, while_open, texts_told, relayed, published_at}
-use Rattle.css_drive_relay.specs.Told.{has, unless_refused, last_published, states_of, SessionsAreTold}
+use Rattle.css_drive_relay.specs.Told.{SessionStates, with_state, while_open, texts_told, relayed, published_at, has}
+use Rattle.css_drive_relay.specs.Told.{unless_refused, last_published, states_of, SessionsAreTold}
 use Rattle.css_companion.specs.declared.fault.CompanionFault.{CompanionFault}
 use Rattle.css_drive.specs.CompanionDue.{refusal_of}
 use Rattle.css_drive.specs.Proper.{Due, Ends}
 use Rattle.css_drive.specs.TvRan.{AreBelow, AreNumbered}
 use Rattle.css_drive.specs.declared.driven.Driven.{Driven}
-use Rattle.css_model.specs.History.{Entry, History, Slept, Clock, Dialling, Dialled, NotDialled, Accepted, NoneCame}
-use Rattle.css_model.specs.History.{Sent, Quiet, Heard, Closed, Wrote, Gone, HungUp}
-use Rattle.css_drive_relay.specs.declared.config.RelayRun.{RelayRun}
+use Rattle.css_model.specs.History.{Entry, History, Slept, Accepted, Sent, Heard, Closed, Wrote, Gone}
+use Rattle.css_drive_relay.specs.declared.plan.Plan.{Plan}
 use Rattle.css_model.specs.declared.Kind.{Kind}
-use Rattle.css_drive.specs.declared.driven.Driven.TheVariants as driven
-use Rattle.css_model.specs.declared.Kind.TheVariants as kind
-use Rattle.css_model.specs.declared.Why.TheVariants as why
 use Rattle.css_drive_relay.specs.Places as places
 
 -- ---- peers in a list
@@ -42,9 +36,7 @@ any (suc n) = true
 
 has_count : (peer : ℕ) (peers : List ℕ) → has peer peers ≡ any (count peer peers)
 has_count peer [] = refl
-has_count peer (p ∷ ps) =
-    elim (eqb p peer) as (λ b. (b || has peer ps) ≡ any (cond b (suc (count peer ps)) (count peer ps)))
-    [ true ↦ refl | false ↦ has_count peer ps ]
+has_count peer (p ∷ ps) = let ih = has_count peer ps in grind (arith, nat_tests, ih)
 
 count_without : (peer other : ℕ) (peers : List ℕ)
     → count peer (without other peers) ≡ cond (eqb other peer) 0 (count peer peers)
@@ -71,8 +63,7 @@ none_owed peer p e = ap (λ xs. texts (count peer xs) (text_at p.place p.facts))
 
 owed_telling : (peer : ℕ) (text left : List ℕ) (f : Facts)
     → owed peer (record { facts = f; place = telling text left f }) ≡ texts (count peer left) text
-owed_telling peer text [] f = refl
-owed_telling peer text (p ∷ ps) f = refl
+owed_telling peer text left f = grind arith
 
 -- ---- what stands as the run goes on
 -- these states of a session end with this one
@@ -227,8 +218,7 @@ owed_by (Some text) n = texts n text
 
 owed_published : (peer : ℕ) (f : Facts) (text : Option (List ℕ))
     → owed peer (record { facts = f; place = telling_if text f }) ≡ owed_by text (count peer f.peers)
-owed_published peer f None = refl
-owed_published peer f (Some text) = owed_telling peer text f.peers f
+owed_published peer f text = grind arith
 
 publishes : {states : Option SessionStates} {last : State} {sent : List (List ℕ)} {gone : Bool} {ToCome : Type 0}
     (kept : ℕ) {state : State} → Tells states last sent gone ToCome kept [] state → (s : State)
@@ -270,54 +260,52 @@ publishes (suc (suc n)) t s = absurd (let once = t.once in omega (arith, once))
 
 -- ---- peers
 -- what holds of a peer's session after a history
-abbrev pub GoodAt : RelayRun → ℕ → Option SessionStates → State → History → Progress → Type 0
-GoodAt run peer states last h p =
+abbrev pub GoodAt : Plan → ℕ → Option SessionStates → State → History → Progress → Type 0
+GoodAt plan peer states last h p =
     Tells states last (sent_to peer h) (is_gone peer h) (AreBelow peer h) (count peer p.facts.peers) (owed peer p)
     p.facts.state
 
-abbrev pub Good : RelayRun → ℕ → History → Type 0
-Good run peer h = GoodAt run peer (states_of run peer h) (last_published run h) h (progress_of run h)
-
--- ---- places to which nothing is owed
-waits_welcomed : (o : Option ℕ) (peers : List ℕ) → waiting (next_asked o peers) ≡ []
-waits_welcomed None peers = refl
-waits_welcomed (Some p) peers = refl
-
-waits_passed : (f : Facts) (place : Place) → waiting place ≡ [] → waiting (places.passed place f) ≡ []
-waits_passed f (Welcomed peer) e = e
-waits_passed f place e = e
+abbrev pub Good : Plan → ℕ → History → Type 0
+Good plan peer h = GoodAt plan peer (states_of plan peer h) (last_published plan h) h (progress_of plan h)
 
 -- ---- places after a text
 owes_told : (peer : ℕ) (place : Place) (f g : Facts) (text : List ℕ) → text_at place f ≡ text
     → texts (count peer (places.without_first (waiting place))) text
     ≡ owed peer (record { facts = g; place = places.told place g })
-owes_told peer (Greeting other) f g text e =
-    sym (none_owed peer (record { facts = g; place = places.welcomed g }) (waits_welcomed g.television g.peers))
-owes_told peer (Telling words left) f g text e =
-    sym (owed_telling peer words (places.without_first left) g
-    ∙ ap (texts (count peer (places.without_first left))) e)
-owes_told peer place f g text e = refl
+owes_told peer place f g text e = grind (arith, e)
 
 gone_told : (place : Place) (f : Facts) (other : ℕ) → waiting place ≡ other ∷ places.without_first (waiting place)
     → places.gone other place f
     ≡ record { facts = places.lost other f; place = places.told place (places.lost other f) }
-gone_told (Greeting peer) f other e = refl
-gone_told (Telling text left) f other e = refl
-gone_told place f other e = absurd (cc)
+gone_told place f other e = grind (arith, e)
 
 -- ---- an entry
-module _ (run : RelayRun) (peer : ℕ) (older : History) (t : Good run peer older) where
+-- it is of no session that was accepted
+abbrev pub IsPassed : Entry → Type 0
+IsPassed (Accepted peer kind) = ⊥
+IsPassed (Heard peer bytes) = ⊥
+IsPassed (Closed peer) = ⊥
+IsPassed (Wrote peer text) = ⊥
+IsPassed (Gone peer) = ⊥
+IsPassed _ = ⊤
+
+after_passed : (plan : Plan) (older : History) (entry : Entry) → IsPassed entry → (f : Facts) (place : Place)
+    → Follows plan f place entry → let q : Progress = places.after plan entry older (record { facts = f; place = place }) in
+    (waiting place ≡ []) × (q.facts.peers ≡ f.peers) × (q.facts.state ≡ f.state) × (waiting q.place ≡ [])
+after_passed plan older entry is f place c = grind (arith, is, c)
+
+module _ (plan : Plan) (peer : ℕ) (older : History) (t : Good plan peer older) where
   abbrev p : Progress
-  p = progress_of run older
+  p = progress_of plan older
 
   abbrev next : Entry → Progress
-  next entry = progress_of run (entry ∷ older)
+  next entry = progress_of plan (entry ∷ older)
 
   abbrev At : Progress → Type 0
-  At = GoodAt run peer (states_of run peer older) (last_published run older) older
+  At = GoodAt plan peer (states_of plan peer older) (last_published plan older) older
 
   module _ (none : waiting p.place ≡ []) where
-    idle : Tells (states_of run peer older) (last_published run older) (sent_to peer older) (is_gone peer older)
+    idle : Tells (states_of plan peer older) (last_published plan older) (sent_to peer older) (is_gone peer older)
         (AreBelow peer older) (count peer p.facts.peers) [] p.facts.state
     idle = same t refl (none_owed peer p none) refl
 
@@ -338,31 +326,27 @@ module _ (run : RelayRun) (peer : ℕ) (older : History) (t : Good run peer olde
     after_closed other place e = stays (places.closed other place p.facts) refl refl e
 
     after_heard : (other : ℕ) (bytes : List ℕ) (place : Place) → waiting place ≡ []
-        → GoodAt run peer (with_state (while_open (published_at run other bytes older place) (has peer p.facts.peers))
-        (states_of run peer older)) (unwrap_or (published_at run other bytes older place) (last_published run older))
-        older (places.heard run other bytes older place p.facts)
+        → GoodAt plan peer (with_state (while_open (published_at plan other bytes older place) (has peer p.facts.peers))
+        (states_of plan peer older)) (unwrap_or (published_at plan other bytes older place) (last_published plan older))
+        older (places.heard plan other bytes older place p.facts)
     after_heard other bytes (Welcomed q) e = told (refusal_of (Some bytes) older)
       where
         state : State
-        state = relayed run (Heard other bytes ∷ older)
+        state = relayed plan (Heard other bytes ∷ older)
 
         -- the text of the television is refused, or what the relay tells after it is published
         told : (refusal : Option CompanionFault)
-            → GoodAt run peer (with_state (while_open (unless_refused refusal state) (has peer p.facts.peers))
-            (states_of run peer older)) (unwrap_or (unless_refused refusal state) (last_published run older)) older
+            → GoodAt plan peer (with_state (while_open (unless_refused refusal state) (has peer p.facts.peers))
+            (states_of plan peer older)) (unwrap_or (unless_refused refusal state) (last_published plan older)) older
             (places.television_told refusal state p.facts)
         told (Some fault) = stays (places.television_told (Some fault) state p.facts) refl refl refl
         told None =
-            subst (λ (b : Bool). GoodAt run peer (with_state (while_open (Some state) b) (states_of run peer older))
+            subst (λ (b : Bool). GoodAt plan peer (with_state (while_open (Some state) b) (states_of plan peer older))
             state older (published state p.facts)) (sym (has_count peer p.facts.peers))
             (same (publishes (count peer p.facts.peers) idle state) refl
             (sym (owed_published peer (record p.facts { state = state }) (difference_text p.facts.state state))) refl)
     after_heard other bytes (Asked left) e = loses other (Dropping other (places.without_first left)) refl
-    after_heard other bytes place e = stays (places.heard run other bytes older place p.facts) refl refl e
-
-    after_sent : (place : Place) → At (places.sent place p.facts)
-    after_sent (Asking reading) = stays (places.sent (Asking reading) p.facts) refl refl refl
-    after_sent place = stays (places.sent place p.facts) refl refl refl
+    after_heard other bytes place e = stays (places.heard plan other bytes older place p.facts) refl refl e
 
     -- a session was accepted, and is kept or not
     kept_last : (other : ℕ) (b : Bool) → eqb other peer ≡ b
@@ -373,8 +357,8 @@ module _ (run : RelayRun) (peer : ℕ) (older : History) (t : Good run peer olde
         ∙ ap (λ x. cond x (suc (count peer p.facts.peers)) (count peer p.facts.peers)) is)
 
     opened : (other : ℕ) (k : Kind) (same kept : Bool) → AreBelow other older → eqb other peer ≡ same
-        → Tells (cond (same && kept) (Some (record { opening = last_published run older; later = [] }))
-        (states_of run peer older)) (last_published run older) (sent_to peer older) (is_gone peer older)
+        → Tells (cond (same && kept) (Some (record { opening = last_published plan older; later = [] }))
+        (states_of plan peer older)) (last_published plan older) (sent_to peer older) (is_gone peer older)
         (AreBelow peer (Accepted other k ∷ older)) (count peer (opened_if kept other p.facts).facts.peers)
         (owed peer (opened_if kept other p.facts)) (opened_if kept other p.facts).facts.state
     opened other k true true below is =
@@ -390,58 +374,43 @@ module _ (run : RelayRun) (peer : ℕ) (older : History) (t : Good run peer olde
 
   -- what is owed, where this text is to be sent to this session
   due : (other : ℕ) (text : List ℕ) → IsToTell p.facts p.place other text
-      → Tells (states_of run peer older) (last_published run older) (sent_to peer older) (is_gone peer older)
+      → Tells (states_of plan peer older) (last_published plan older) (sent_to peer older) (is_gone peer older)
       (AreBelow peer older) (count peer p.facts.peers) (texts (cond (eqb other peer)
       (suc (count peer (places.without_first (waiting p.place)))) (count peer (places.without_first (waiting p.place))))
       text) p.facts.state
   due other text c =
       same t refl (ap (λ xs. texts (count peer xs) (text_at p.place p.facts)) c.0 ∙ ap (texts _) c.1) refl
 
-  after_gone : (other : ℕ) (text : List ℕ) → IsToTell p.facts p.place other text → Good run peer (Gone other ∷ older)
+  after_gone : (other : ℕ) (text : List ℕ) → IsToTell p.facts p.place other text → Good plan peer (Gone other ∷ older)
   after_gone other text c =
       let g : Facts = places.lost other p.facts in
-      subst (λ (q : Progress). GoodAt run peer (states_of run peer older) (last_published run older)
+      subst (λ (q : Progress). GoodAt plan peer (states_of plan peer older) (last_published plan older)
       (Gone other ∷ older) q) (sym (gone_told p.place p.facts other c.0))
       (same (went_one (eqb other peer) _ text (due other text c)) (sym (count_without peer other p.facts.peers))
       (owes_told peer p.place p.facts g text c.1) refl)
 
-  after : (entry : Entry) → Follows run p.facts p.place entry → AreNumbered (entry ∷ older)
-      → Good run peer (entry ∷ older)
-  after (Clock why.Turn reading) c n =
-      stays c.0 (next (Clock why.Turn reading)) refl refl
-      (on_begun (λ place. waiting place ≡ []) run (places.with_turn reading p.facts) refl refl)
-  after (Clock why.Take reading) c n =
-      stays c.0 (next (Clock why.Take reading)) refl refl
-      (on_received (λ place. waiting place ≡ []) run reading older p.place (λ never. absurd (never c.2)) refl
-      (λ q b t is. refl))
-  after (Clock why.Give reading) c n =
-      stays c.0 (next (Clock why.Give reading)) refl refl
-      (on_answered (λ place. waiting place ≡ []) run reading older p.place (λ never. absurd (never c.2)) refl
-      (λ q t m at is. refl))
-  after (Dialling kind.Ts to) c n = absurd c
-  after (Dialling k to) c n = stays c.0 (next (Dialling k to)) refl refl c.0
-  after (Dialled kind.Ts other) c n = absurd c
-  after (NotDialled kind.Ts) c n = absurd c
+  -- an entry of no session that was accepted
+  passes : (entry : Entry) → IsPassed entry → Follows plan p.facts p.place entry → At (next entry)
+  passes entry is c =
+      let x = after_passed plan older entry is p.facts p.place c in stays x.0 (next entry) x.1 x.2 x.3
+
+  after : (entry : Entry) → Follows plan p.facts p.place entry → AreNumbered (entry ∷ older)
+      → Good plan peer (entry ∷ older)
   after (Accepted other k) c n =
       opened c.0 other k (eqb other peer) (is_kept k (length p.facts.peers)) n.0 refl
-  after NoneCame c n = stays c.0 (next NoneCame) refl refl (waits_welcomed p.facts.television p.facts.peers)
-  after (Sent other bytes) c n = after_sent c.0 p.place
-  after (Quiet other) c n = stays c.0 (next (Quiet other)) refl refl (waits_passed p.facts p.place c.0)
   after (Heard other bytes) c n = after_heard c.0 other bytes p.place c.0
   after (Closed other) c n = after_closed c.0 other p.place c.0
   after (Wrote other text) c n =
       same (wrote_one (eqb other peer) _ text (due other text c)) refl
       (owes_told peer p.place p.facts p.facts text c.1) refl
   after (Gone other) c n = after_gone other c.0 c.1
-  after (HungUp other) c n =
-      stays c.0 (next (HungUp other)) refl refl (on_hung_up (λ place. waiting place ≡ []) p.place p.facts
-      (waits_welcomed p.facts.television p.facts.peers) (λ left. refl) (λ left. refl))
-  after Slept c n = stays c.0 (next Slept) refl refl c.0
-  after entry c n = stays c.0 (next entry) refl refl refl
+  after Slept c n = passes Slept tt c
+  after (Sent other bytes) c n = passes (Sent other bytes) tt c
+  after entry c n = passes entry tt c
 
 -- ---- the run
-all_good : (run : RelayRun) (peer : ℕ) (h : History) → Followed run h → AreNumbered h → Good run peer h
-all_good run peer [] each numbered = record {
+all_good : (plan : Plan) (peer : ℕ) (h : History) → Followed plan h → AreNumbered h → Good plan peer h
+all_good plan peer [] each numbered = record {
   missing = [];
   front = refl;
   few = omega arith;
@@ -451,16 +420,14 @@ all_good run peer [] each numbered = record {
   live = λ lt. absurd (omega (arith, lt));
   fresh = λ e. (refl, refl, refl);
 }
-all_good run peer (entry ∷ older) each numbered =
-    after run peer older (all_good run peer older each.1 (numbered_rest (entry ∷ []) older numbered)) entry each.0
+all_good plan peer (entry ∷ older) each numbered =
+    after plan peer older (all_good plan peer older each.1 (numbered_rest (entry ∷ []) older numbered)) entry each.0
     numbered
 
 -- where the end is due nothing is owed
-ended_waits : (run : RelayRun) (f : Facts) (place : Place) (ended : Driven) → Fits run f place (Ends ended)
+ended_waits : (plan : Plan) (f : Facts) (place : Place) (ended : Driven) → Fits plan f place (Ends ended)
     → waiting place ≡ []
-ended_waits run f place driven.Done c = c.0
-ended_waits run f place (driven.Unreachable turns) c = c.0
-ended_waits run f place _ c = c.0
+ended_waits plan f place ended c = grind (arith, c)
 
 -- what is unsent are at most a text that is owed and one that was lost, and not both
 few_unsent : {states : Option SessionStates} {last : State} {sent : List (List ℕ)} {gone : Bool} {ToCome : Type 0}
@@ -473,9 +440,9 @@ few_unsent {owed = text ∷ owed} t =
     (subst (λ (os : List (List ℕ)). length ((text ∷ os) ++ []) ≤ 1) (sym (none_more t)) (omega arith))
 
 pub sessions_are_told : SessionsAreTold
-sessions_are_told run h proper numbered peer =
-    let p : Progress = progress_of run h in
-    let t : Good run peer h = all_good run peer h (followed run h proper) numbered in
+sessions_are_told plan h proper numbered peer =
+    let p : Progress = progress_of plan h in
+    let t : Good plan peer h = all_good plan peer h (followed plan h proper) numbered in
     record {
       unsent = owed peer p ++ t.missing;
       first = t.front ∙ sym (append_assoc (owed peer p) t.missing (sent_to peer h));
@@ -483,6 +450,6 @@ sessions_are_told run h proper numbered peer =
       ended =
           λ ended e.
           subst (λ (os : List (List ℕ)). length (os ++ t.missing) ≤ lost (is_gone peer h))
-          (sym (none_owed peer p (ended_waits run p.facts p.place ended
-          (subst (λ (d : Due). Fits run p.facts p.place d) e (fits run p.facts h p.place))))) t.few;
+          (sym (none_owed peer p (ended_waits plan p.facts p.place ended
+          (subst (λ (d : Due). Fits plan p.facts p.place d) e (fits plan p.facts h p.place))))) t.few;
     }

@@ -1,16 +1,18 @@
--- How far a relay's run has come: a function of what its calls did so far.
+-- How far the run of a relay's visit has come: a function of what went before the visit and of its own calls.
 use Rattle.std.specs.Prelude.{ℕ, ◌+◌, ◌==◌, Bool, true, false, nat_lt, not, filter, List, [], ◌∷◌, ◌++◌, length}
 use Rattle.std.specs.Prelude.{if◌then◌else◌, Option, Some, None, unwrap_or, Result, Ok, Err}
-use Rattle.std.specs.List.{insert}
 use Rattle.css_model.specs.declared.Why.{Why}
 use Rattle.css_model.specs.declared.Why.TheVariants as why
 use Rattle.css_model.specs.declared.Kind.{Kind}
 use Rattle.css_model.specs.declared.Kind.TheVariants as kind
-use Rattle.css_model.specs.History.{Entry, History, Listening, Slept, Clock, Dialled, NotDialled, Accepted, NoneCame}
-use Rattle.css_model.specs.History.{Sent, Took, TookNone, Quiet, Heard, Closed, Wrote, Gone, HungUp}
+use Rattle.css_model.specs.History.{Entry, History, Slept, Clock, Dialled, NotDialled, Accepted, NoneCame}
+use Rattle.css_model.specs.WallClock.{Local}
+use Rattle.css_model.specs.History.{accepted_answers, Sent, Took, TookNone, Quiet, Heard, Closed, Wrote, Gone, HungUp}
+use Rattle.css_agree.specs.Disagreements.{contradicts}
 use Rattle.css_cii.specs.States.{empty}
 use Rattle.css_cii.specs.declared.state.State.{State}
 use Rattle.css_sessions.specs.Kept.{difference_text}
+use Rattle.css_client.specs.Landings.{judged_of}
 use Rattle.css_companion.specs.Meanings.{state_of}
 use Rattle.css_companion.specs.declared.fault.CompanionFault.{CompanionFault}
 use Rattle.css_relay.specs.Answers.{Ticket, received_after, answered_after, datagram_of}
@@ -18,12 +20,14 @@ use Rattle.css_relay.specs.Relays.{wc_url_of, relayed_state}
 use Rattle.css_relay.specs.declared.fault.RelayFault.{RelayFault}
 use Rattle.css_drive.specs.CompanionDue.{refusal_of}
 use Rattle.css_drive.specs.CompanionTurns.{is_late}
-use Rattle.css_drive_relay.specs.declared.config.RelayRun.{RelayRun}
+use Rattle.css_drive.specs.declared.parting.Parting.{Parting}
+use Rattle.css_drive.specs.declared.parting.Parting.TheVariants as parting
+use Rattle.css_drive.specs.declared.session.Session.TheVariants as session
+use Rattle.css_drive_relay.specs.declared.begun.Begun.{Begun as Before}
+use Rattle.css_drive_relay.specs.declared.plan.Plan.{Plan}
 
 -- Where a run stands: by its last entry that is no sleep.
 pub data Place : Type 0 where
-  -- nothing was done
-  Begins : Place
   -- a turn's reading was told
   Begun : Place
   -- a dial of this kind was made
@@ -49,17 +53,16 @@ pub data Place : Type 0 where
   Refused : (fault : CompanionFault) → Place
   -- this text is still to be told to these sessions
   Telling : (text : List ℕ) → (left : List ℕ) → Place
-  -- These accepted sessions are still to be asked for their texts. So a turn ends where there is none; and as a relay
-  -- begins to listen, there is none.
+  -- These accepted sessions are still to be asked for their texts. So a turn ends where there is none; and as a visit
+  -- begins, there is none.
   Asked : (left : List ℕ) → Place
   -- a session told a text, which ends it; after it these are to be asked
   Dropping : (peer : ℕ) → (left : List ℕ) → Place
-  -- the turns are over, and these sessions are still to be hung up
-  Over : (left : List ℕ) → Place
 
--- How many turns were begun, and the readings of the first and the last one; the reading of the turn of the last
--- request since the last sleep; the peers that were dialled, and the television's session of CSS-CII where it is open;
--- the state that the accepted sessions were told last; and these sessions, in the order in which they came.
+-- How many turns were begun, and the readings of the first and the last one, those of earlier visits among them; the
+-- reading of the turn of the last request since the last sleep; the peers that were dialled, and the television's session
+-- of CSS-CII where it is open; the state that the accepted sessions were told last; these sessions, in the order in which
+-- they came; and why the visit was cut short, if it was.
 pub record Facts : Type 0 where
   pub turns : ℕ
   pub first : Option ℕ
@@ -70,6 +73,7 @@ pub record Facts : Type 0 where
   pub television : Option ℕ
   pub state : State
   pub peers : List ℕ
+  pub parting : Option Parting
 
 pub record Progress : Type 0 where
   pub facts : Facts
@@ -87,23 +91,6 @@ without peer peers = filter (λ other. not (other == peer)) peers
 -- an accepted session is over
 abbrev pub lost : ℕ → Facts → Facts
 lost peer f = record f { peers = without peer f.peers }
-
--- how many peers come before one
-abbrev pub place : ℕ → List ℕ → ℕ
-place peer [] = 0
-place peer (other ∷ peers) = if nat_lt other peer then place peer peers + 1 else 0
-
--- one peer more, before the first greater one
-abbrev pub with_peer : ℕ → List ℕ → List ℕ
-with_peer new peers = insert peers (place new peers) new
-
-abbrev pub with_television : Option ℕ → List ℕ → List ℕ
-with_television None peers = peers
-with_television (Some peer) peers = with_peer peer peers
-
--- all open sessions in order of peer, the television's among them
-abbrev pub all_open : Facts → List ℕ
-all_open f = with_television f.television f.peers
 
 abbrev pub without_first : List ℕ → List ℕ
 without_first [] = []
@@ -138,16 +125,28 @@ answering peer (Err fault) = Served
 answering peer (Ok datagram) = Answers peer datagram
 
 -- a request is received at a reading: it is dropped where it has a fault
-abbrev pub received_at : RelayRun → ℕ → History → Place → Place
-received_at run reading older (Taken peer bytes) =
-    received peer (received_after run.companion.local older reading bytes)
-received_at run reading older place = place
+abbrev pub received_at : Plan → ℕ → History → Place → Place
+received_at plan reading older (Taken peer bytes) =
+    received peer (received_after plan.run.companion.local older reading bytes)
+received_at plan reading older place = place
 
 -- so it is where its answer has one
-abbrev pub answered_at : RelayRun → ℕ → History → Place → Place
-answered_at run reading older (Received peer ticket) =
-    answering peer (datagram_of (answered_after run.companion.local older reading ticket))
-answered_at run reading older place = place
+abbrev pub answered_at : Plan → ℕ → History → Place → Place
+answered_at plan reading older (Received peer ticket) =
+    answering peer (datagram_of (answered_after plan.run.companion.local older reading ticket))
+answered_at plan reading older place = place
+
+-- An answer landed that contradicts those before it, which ends the visit and the turn with it, or another datagram.
+abbrev pub landed : Bool → Facts → Progress
+landed true f = record { facts = record f { parting = Some parting.Disagree }; place = Asked [] }
+landed false f = record { facts = f; place = Served }
+
+-- what a datagram does that was taken
+abbrev pub landed_at : Plan → ℕ → History → Place → Facts → Progress
+landed_at plan reading older (Taken peer bytes) f =
+    let own : Local = plan.run.companion.local in
+    landed (contradicts own reading (judged_of own older reading bytes) (accepted_answers own older)) f
+landed_at plan reading older place f = record { facts = f; place = Served }
 
 -- A datagram was sent: a request of the relay's own, or an answer. Only a request counts for the time of the next one.
 abbrev pub sent : Place → Facts → Progress
@@ -160,16 +159,16 @@ with_turn reading f =
     record f { turns = f.turns + 1; first = Some (unwrap_or f.first reading); turn = Some reading }
 
 -- A turn's reading was told. The last one by its time ends there.
-abbrev pub begun : RelayRun → Facts → Place
-begun run f = if is_late run.limit f.first f.turn then Asked [] else Begun
+abbrev pub begun : Plan → Facts → Place
+begun plan f = if is_late plan.run.limit f.first f.turn then Asked [] else Begun
 
-abbrev pub after_clock : RelayRun → Why → ℕ → History → Progress → Progress
-after_clock run why.Turn reading older p = let now : Facts = with_turn reading p.facts in
-    record { facts = now; place = begun run now }
-after_clock run why.Ask reading older p = at (Asking reading) p
-after_clock run why.Land reading older p = at Served p
-after_clock run why.Take reading older p = at (received_at run reading older p.place) p
-after_clock run why.Give reading older p = at (answered_at run reading older p.place) p
+abbrev pub after_clock : Plan → Why → ℕ → History → Progress → Progress
+after_clock plan why.Turn reading older p = let now : Facts = with_turn reading p.facts in
+    record { facts = now; place = begun plan now }
+after_clock plan why.Ask reading older p = at (Asking reading) p
+after_clock plan why.Land reading older p = landed_at plan reading older p.place p.facts
+after_clock plan why.Take reading older p = at (received_at plan reading older p.place) p
+after_clock plan why.Give reading older p = at (answered_at plan reading older p.place) p
 
 abbrev pub after_dial : Kind → ℕ → Facts → Facts
 after_dial kind.Cii peer f = record f { cii = Some peer; television = Some peer }
@@ -204,16 +203,19 @@ passed (Asked left) f = Asked (without_first left)
 passed place f = place
 
 -- the text of an accepted session ends it
-abbrev pub heard : RelayRun → ℕ → List ℕ → History → Place → Facts → Progress
-heard run peer bytes older (Welcomed television) f = television_told (refusal_of (Some bytes) older)
-    (relayed_state (wc_url_of run.host run.port) (state_of (Heard peer bytes ∷ older))) f
-heard run peer bytes older (Asked left) f =
+abbrev pub heard : Plan → ℕ → List ℕ → History → Place → Facts → Progress
+heard plan peer bytes older (Welcomed television) f = television_told (refusal_of (Some bytes) older)
+    (relayed_state (wc_url_of plan.run.host plan.run.port) (state_of (Heard peer bytes ∷ older))) f
+heard plan peer bytes older (Asked left) f =
     record { facts = lost peer f; place = Dropping peer (without_first left) }
-heard run peer bytes older place f = record { facts = f; place = place }
+heard plan peer bytes older place f = record { facts = f; place = place }
 
--- the session that was asked is over
+-- The session that was asked is over. Where it is the television's, so is the visit, and the turn with it.
 abbrev pub closed : ℕ → Place → Facts → Progress
-closed peer (Welcomed television) f = record { facts = record f { television = None }; place = Asked f.peers }
+closed peer (Welcomed television) f = record {
+  facts = record f { television = None; parting = Some (parting.Closed session.Cii) };
+  place = Asked [];
+}
 closed peer (Asked left) f = record { facts = lost peer f; place = Asked (without_first left) }
 closed peer place f = record { facts = f; place = place }
 
@@ -230,51 +232,50 @@ gone peer (Telling text left) f =
     record { facts = lost peer f; place = telling text (without_first left) (lost peer f) }
 gone peer place f = record { facts = f; place = place }
 
--- a session was hung up: one that the relay doesn't keep, or since the turns are over
+-- a session was hung up that the relay doesn't keep
 abbrev pub hung_up : Place → Facts → Place
 hung_up (Rejecting peer) f = welcomed f
 hung_up (Dropping peer left) f = Asked left
-hung_up (Over left) f = Over (without_first left)
-hung_up place f = Over (without_first (all_open f))
+hung_up place f = place
 
 -- ---- entries
-abbrev pub after : RelayRun → Entry → History → Progress → Progress
-after run (Listening host port) older p = at (Asked []) p
-after run Slept older p = record { facts = record p.facts { asked = None }; place = p.place }
-after run (Clock w reading) older p = after_clock run w reading older p
-after run (Dialled k peer) older p = record { facts = after_dial k peer p.facts; place = Called k }
-after run (NotDialled k) older p = at (Called k) p
-after run (Accepted peer k) older p = opened_if (is_kept k (length p.facts.peers)) peer p.facts
-after run NoneCame older p = at (welcomed p.facts) p
-after run (Sent peer bytes) older p = sent p.place p.facts
-after run (Took peer bytes) older p = at (Taken peer bytes) p
-after run TookNone older p = at Served p
-after run (Quiet peer) older p = at (passed p.place p.facts) p
-after run (Heard peer bytes) older p = heard run peer bytes older p.place p.facts
-after run (Closed peer) older p = closed peer p.place p.facts
-after run (Wrote peer bytes) older p = at (told p.place p.facts) p
-after run (Gone peer) older p = gone peer p.place p.facts
-after run (HungUp peer) older p = at (hung_up p.place p.facts) p
-after run _ older p = p
+abbrev pub after : Plan → Entry → History → Progress → Progress
+after plan Slept older p = record { facts = record p.facts { asked = None }; place = p.place }
+after plan (Clock w reading) older p = after_clock plan w reading older p
+after plan (Dialled k peer) older p = record { facts = after_dial k peer p.facts; place = Called k }
+after plan (NotDialled k) older p = at (Called k) p
+after plan (Accepted peer k) older p = opened_if (is_kept k (length p.facts.peers)) peer p.facts
+after plan NoneCame older p = at (welcomed p.facts) p
+after plan (Sent peer bytes) older p = sent p.place p.facts
+after plan (Took peer bytes) older p = at (Taken peer bytes) p
+after plan TookNone older p = at Served p
+after plan (Quiet peer) older p = at (passed p.place p.facts) p
+after plan (Heard peer bytes) older p = heard plan peer bytes older p.place p.facts
+after plan (Closed peer) older p = closed peer p.place p.facts
+after plan (Wrote peer bytes) older p = at (told p.place p.facts) p
+after plan (Gone peer) older p = gone peer p.place p.facts
+after plan (HungUp peer) older p = at (hung_up p.place p.facts) p
+after plan _ older p = p
 
--- nothing was done yet
-abbrev pub beginning : Progress
-beginning = record {
+-- nothing was done yet in this visit
+abbrev pub beginning : Before → Progress
+beginning begun = record {
   facts = record {
-    turns = 0;
-    first = None;
-    turn = None;
+    turns = begun.turns;
+    first = begun.first;
+    turn = begun.turn;
     asked = None;
     cii = None;
     wc = None;
     television = None;
     state = empty;
     peers = [];
+    parting = None;
   };
-  place = Begins;
+  place = Asked [];
 }
 
--- how far the run of a relay has come
-abbrev pub progress_of : RelayRun → History → Progress
-progress_of run [] = beginning
-progress_of run (entry ∷ older) = after run entry older (progress_of run older)
+-- how far the run of a visit has come
+abbrev pub progress_of : Plan → History → Progress
+progress_of plan [] = beginning plan.begun
+progress_of plan (entry ∷ older) = after plan entry older (progress_of plan older)

@@ -13,27 +13,27 @@ use Rattle.css_relay.specs.Answers.{answered_after}
 use Rattle.css_relay.specs.TwoHops.{IsTrueResponse, IsTruthfulToAll, IsTrueAtLast}
 use Rattle.css_drive_relay.specs.Places.{Place, Received, progress_of}
 use Rattle.css_drive_relay.specs.Due.{IsProperRelay}
-use Rattle.css_drive_relay.specs.declared.config.RelayRun.{RelayRun}
+use Rattle.css_drive_relay.specs.declared.plan.Plan.{Plan}
 
 -- ---- responses
 -- the response to the request that was received, at the reading for its answer, unless it has a fault
-abbrev pub given_at : RelayRun → ℕ → History → Place → Option Message
-given_at run reading older (Received peer ticket) =
-    result_ok (answered_after run.companion.local older reading ticket)
-given_at run reading older _ = None
+abbrev pub given_at : Plan → ℕ → History → Place → Option Message
+given_at plan reading older (Received peer ticket) =
+    result_ok (answered_after plan.run.companion.local older reading ticket)
+given_at plan reading older _ = None
 
 -- the response that a run gives with an entry, whose datagram it sends next
-abbrev pub given_by : RelayRun → Entry → History → Option Message
-given_by run (Clock why.Give reading) older = given_at run reading older (progress_of run older).place
-given_by run _ older = None
+abbrev pub given_by : Plan → Entry → History → Option Message
+given_by plan (Clock why.Give reading) older = given_at plan reading older (progress_of plan older).place
+given_by plan _ older = None
 
 -- The bytes are the datagram of the response that the run gave with the newest entry of a history.
-pub record IsResponse (run : RelayRun) (bytes : List ℕ) (history : History) : Type 0 where
+pub record IsResponse (plan : Plan) (bytes : List ℕ) (history : History) : Type 0 where
   pub reading : ℕ
   pub before : History
   pub message : Message
   pub just : history ≡ Clock why.Give reading ∷ before
-  pub given : given_by run (Clock why.Give reading) before ≡ Some message
+  pub given : given_by plan (Clock why.Give reading) before ≡ Some message
   pub wire : bytes ≡ encoded message
 
 -- they are a request of the relay's own, at the reading of the newest entry
@@ -44,18 +44,18 @@ pub record IsRequest (bytes : List ℕ) (history : History) : Type 0 where
   pub wire : bytes ≡ encoded (request_at reading)
 
 -- a datagram that is sent is either
-abbrev pub IsSentAt : RelayRun → Entry → History → Type 0
-IsSentAt run (Sent peer bytes) older = IsRequest bytes older ⊎ IsResponse run bytes older
-IsSentAt run _ older = ⊤
+abbrev pub IsSentAt : Plan → Entry → History → Type 0
+IsSentAt plan (Sent peer bytes) older = IsRequest bytes older ⊎ IsResponse plan bytes older
+IsSentAt plan _ older = ⊤
 
 -- Each datagram that a run sends is so.
 abbrev pub SentIsKnown : Type 0
-SentIsKnown = (run : RelayRun) (history : History) → IsProperRelay run history → Each (IsSentAt run) history
+SentIsKnown = (plan : Plan) (history : History) → IsProperRelay plan history → Each (IsSentAt plan) history
 
 -- the run gave this response after `before`
-abbrev pub IsGiven : RelayRun → History → Message → History → Type 0
-IsGiven run history message before =
-    Once (λ entry older. (given_by run entry older ≡ Some message) × (older ≡ before)) history
+abbrev pub IsGiven : Plan → History → Message → History → Type 0
+IsGiven plan history message before =
+    Once (λ entry older. (given_by plan entry older ≡ Some message) × (older ≡ before)) history
 
 -- the number of the last reading that was made for a request of others
 abbrev pub last_take : History → ℕ
@@ -74,11 +74,11 @@ pub record IsTrueAnswer (world : World) (tv_error : ℕ) (moment_of : ℕ → �
 
 -- In each world that keeps the errors and explains a run's lawful calls, each response that the run gave is so.
 abbrev pub GivenIsTrue : Type 0
-GivenIsTrue = (errors : Errors) (world : World) (who : ℕ) (run : RelayRun) (history : History) (moment_of : ℕ → ℕ)
+GivenIsTrue = (errors : Errors) (world : World) (who : ℕ) (plan : Plan) (history : History) (moment_of : ℕ → ℕ)
     (message : Message) (before : History)
-    → IsProperRelay run history → IsWorldFor errors world who run.companion.local → IsInRange world
-    → IsLawful history → Explains world who errors.tv run.companion.local history moment_of
-    → IsGiven run history message before → IsTrueAnswer world errors.tv moment_of before message
+    → IsProperRelay plan history → IsWorldFor errors world who plan.run.companion.local → IsInRange world
+    → IsLawful history → Explains world who errors.tv plan.run.companion.local history moment_of
+    → IsGiven plan history message before → IsTrueAnswer world errors.tv moment_of before message
 
 -- ---- two hops
 -- A landed answer was read from a datagram that the run sent in answer, right after the reading for it. Its request was
@@ -108,11 +108,11 @@ FromRunAt history moment_of second_own second_moment_of entry older =
 -- companion that accepts nothing but what the run sent in answer, the second companion's spans contain the wall clock.
 abbrev pub SecondHopsAreTrue : Type 0
 SecondHopsAreTrue = (errors : Errors) (world : World)
-    (who : ℕ) (run : RelayRun) (history : History) (moment_of : ℕ → ℕ)
+    (who : ℕ) (plan : Plan) (history : History) (moment_of : ℕ → ℕ)
     (second : ℕ) (second_own : Local) (second_history : History) (second_moment_of : ℕ → ℕ)
-    → IsProperRelay run history
-    → IsWorldFor errors world who run.companion.local → IsWorldFor errors world second second_own → IsInRange world
-    → IsLawful history → Explains world who errors.tv run.companion.local history moment_of
+    → IsProperRelay plan history
+    → IsWorldFor errors world who plan.run.companion.local → IsWorldFor errors world second second_own → IsInRange world
+    → IsLawful history → Explains world who errors.tv plan.run.companion.local history moment_of
     → IsLawful second_history → HappensIn world second second_own second_history second_moment_of
     → Each (FromRunAt history moment_of second_own second_moment_of) second_history
     → IsTrueAtLast world second errors.tv second_own second_history second_moment_of

@@ -15,12 +15,12 @@ use Rattle.css_drive.specs.TvTold.{sent_to, is_gone, lost}
 use Rattle.css_drive.specs.declared.driven.Driven.{Driven}
 use Rattle.css_drive_relay.specs.Places.{Place, Welcomed, is_kept, progress_of}
 use Rattle.css_drive_relay.specs.Due.{due, IsProperRelay}
-use Rattle.css_drive_relay.specs.declared.config.RelayRun.{RelayRun}
+use Rattle.css_drive_relay.specs.declared.plan.Plan.{Plan}
 
 -- ---- what the relay publishes
 -- the state that it tells after a history: the television's, with the relay's address for the wall clock
-abbrev pub relayed : RelayRun → History → State
-relayed run history = relayed_state (wc_url_of run.host run.port) (state_of history)
+abbrev pub relayed : Plan → History → State
+relayed plan history = relayed_state (wc_url_of plan.run.host plan.run.port) (state_of history)
 
 -- a state, unless the text is refused that makes it
 abbrev pub unless_refused : Option CompanionFault → State → Option State
@@ -28,20 +28,20 @@ unless_refused None state = Some state
 unless_refused (Some fault) state = None
 
 -- a text that comes as the television is asked for one publishes what the relay tells after it
-abbrev pub published_at : RelayRun → ℕ → List ℕ → History → Place → Option State
-published_at run peer bytes older (Welcomed television) =
-    unless_refused (refusal_of (Some bytes) older) (relayed run (Heard peer bytes ∷ older))
-published_at run peer bytes older _ = None
+abbrev pub published_at : Plan → ℕ → List ℕ → History → Place → Option State
+published_at plan peer bytes older (Welcomed television) =
+    unless_refused (refusal_of (Some bytes) older) (relayed plan (Heard peer bytes ∷ older))
+published_at plan peer bytes older _ = None
 
 -- the state that is published with an entry
-abbrev pub published_by : RelayRun → Entry → History → Option State
-published_by run (Heard peer bytes) older = published_at run peer bytes older (progress_of run older).place
-published_by run _ older = None
+abbrev pub published_by : Plan → Entry → History → Option State
+published_by plan (Heard peer bytes) older = published_at plan peer bytes older (progress_of plan older).place
+published_by plan _ older = None
 
 -- the state that was published last, and the empty one where none was
-abbrev pub last_published : RelayRun → History → State
-last_published run [] = empty
-last_published run (entry ∷ older) = unwrap_or (published_by run entry older) (last_published run older)
+abbrev pub last_published : Plan → History → State
+last_published plan [] = empty
+last_published plan (entry ∷ older) = unwrap_or (published_by plan entry older) (last_published plan older)
 
 -- ---- what a session is to be told
 -- the state that was published last as a session was opened, and those published since, the newest first
@@ -67,23 +67,23 @@ has peer [] = false
 has peer (other ∷ peers) = (other == peer) || has peer peers
 
 -- whether a peer's session is open
-abbrev pub is_open : RelayRun → ℕ → History → Bool
-is_open run peer history = has peer (progress_of run history).facts.peers
+abbrev pub is_open : Plan → ℕ → History → Bool
+is_open plan peer history = has peer (progress_of plan history).facts.peers
 
 -- the states of a peer's session after an entry: it begins where the session was accepted and is kept
-abbrev pub states_after : RelayRun → ℕ → Entry → History → Option SessionStates → Option SessionStates
-states_after run peer (Accepted other kind) older states =
-    if (other == peer) && is_kept kind (length (progress_of run older).facts.peers)
-    then Some (record { opening = last_published run older; later = [] })
+abbrev pub states_after : Plan → ℕ → Entry → History → Option SessionStates → Option SessionStates
+states_after plan peer (Accepted other kind) older states =
+    if (other == peer) && is_kept kind (length (progress_of plan older).facts.peers)
+    then Some (record { opening = last_published plan older; later = [] })
     else states
-states_after run peer (Heard other bytes) older states =
-    with_state (while_open (published_by run (Heard other bytes) older) (is_open run peer older)) states
-states_after run peer _ older states = states
+states_after plan peer (Heard other bytes) older states =
+    with_state (while_open (published_by plan (Heard other bytes) older) (is_open plan peer older)) states
+states_after plan peer _ older states = states
 
 -- the states of a peer's session, if one was opened
-abbrev pub states_of : RelayRun → ℕ → History → Option SessionStates
-states_of run peer [] = None
-states_of run peer (entry ∷ older) = states_after run peer entry older (states_of run peer older)
+abbrev pub states_of : Plan → ℕ → History → Option SessionStates
+states_of plan peer [] = None
+states_of plan peer (entry ∷ older) = states_after plan peer entry older (states_of plan peer older)
 
 abbrev pub texts_told : Option SessionStates → List (List ℕ)
 texts_told None = []
@@ -91,19 +91,19 @@ texts_told (Some states) = cii_texts states.opening states.later
 
 -- The texts that a peer's session is to be told, the newest first: the state at its opening in full, and then what is
 -- new in each state that was published while it was open.
-abbrev pub to_tell : RelayRun → ℕ → History → List (List ℕ)
-to_tell run peer history = texts_told (states_of run peer history)
+abbrev pub to_tell : Plan → ℕ → History → List (List ℕ)
+to_tell plan peer history = texts_told (states_of plan peer history)
 
 -- ---- what it was told
 -- The texts that were sent to a peer are the first ones of those that its session was to be told, and all of these but
 -- for one at most. Where the run's end is due, only a text that was told as gone is unsent.
-pub record TellsSession (run : RelayRun) (history : History) (peer : ℕ) : Type 0 where
+pub record TellsSession (plan : Plan) (history : History) (peer : ℕ) : Type 0 where
   pub unsent : List (List ℕ)
-  pub first : to_tell run peer history ≡ unsent ++ sent_to peer history
+  pub first : to_tell plan peer history ≡ unsent ++ sent_to peer history
   pub few : length unsent ≤ 1
-  pub ended : (driven : Driven) → due run history ≡ Ends driven → length unsent ≤ lost (is_gone peer history)
+  pub ended : (driven : Driven) → due plan history ≡ Ends driven → length unsent ≤ lost (is_gone peer history)
 
 -- Every run tells its sessions so.
 abbrev pub SessionsAreTold : Type 0
-SessionsAreTold = (run : RelayRun) (history : History) → IsProperRelay run history → AreNumbered history → (peer : ℕ)
-    → TellsSession run history peer
+SessionsAreTold = (plan : Plan) (history : History) → IsProperRelay plan history → AreNumbered history → (peer : ℕ)
+    → TellsSession plan history peer

@@ -4,6 +4,7 @@ ghost use Rattle.css_cii.specs.Texts.{IsUtf8State};
 ghost use Rattle.css_sessions.specs.Kept as kept;
 
 use css_cii::{State, diff, full, write_message};
+use css_drive::Parting;
 use css_num::{Memory, Text};
 use css_relay::Relay;
 use std::alloc::Global;
@@ -57,7 +58,7 @@ impl Published {
     }
 }
 
-/// What a relay's run keeps from call to call.
+/// What the run of a relay's visit keeps from call to call.
 #[derive(Drop)]
 pub struct Live {
     pub alloc: Global,
@@ -68,4 +69,6 @@ pub struct Live {
     pub state: Published,
     /// The accepted sessions that are open, in the order in which they came.
     pub peers: Vec<u32>,
+    /// Why the visit was cut short, if it was.
+    pub parting: Option<Parting>,
 }

@@ -3,7 +3,7 @@ ghost use Rattle.std.specs.Prelude.{◌≡◌, ◌≤◌, ◌∷◌, ◌⊎◌, 
 ghost use Rattle.std.specs.Prelude.{IfErr, MatchResult};
 ghost use Rattle.css_model.specs.History.{History};
 ghost use Rattle.css_relay.specs.Relays.{relayed_state};
-ghost use Rattle.css_drive.specs.CompanionStanding.{Shown, shown, IsCut};
+ghost use Rattle.css_drive.specs.CompanionStanding.{Shown, shown, IsEarly};
 ghost use Rattle.css_drive.specs.CompanionTurns.{goes_on};
 ghost use Rattle.css_drive_relay.specs.Due.{final};
 ghost use Rattle.css_drive_relay.specs.Places as places;
@@ -11,13 +11,13 @@ ghost use Rattle.css_drive_relay.specs.Places.{Served, Asked, welcomed, publishe
 ghost use Rattle.css_drive_relay.specs.Standing.{facts_in, placed, stood, visiting};
 ghost use Rattle.css_drive_relay.specs.Standing.{IsAt, Keeps, Knows, Leads, Stands, Stops};
 
-use crate::config::RelayRun;
 use crate::live::{Live, Published};
+use crate::plan::Plan;
 use crate::stages::or_memory;
 use crate::television::hear;
-use css_drive::Driven;
 use css_drive::calls::{end_of, hang_up, send_text, take_text};
-use css_num::{Memory, Text};
+use css_drive::{Driven, Parting, Session};
+use css_num::Text;
 use css_outside::{Heard, Kind, Outside, Wrote};
 
 /// What is done with each accepted session.
@@ -49,7 +49,7 @@ fn is_kept(kind: Kind, count: usize) -> bool
 
 /// Tells a session the state that was opened.
 fn greet<O: Outside>(live: &mut Live, outside: &mut O, peer: u32) -> Result<(), Driven>
-    ensures goes { (run : RelayRun) → Leads O.told O.counts run outside.old outside.new live.old live.new
+    ensures goes { (plan : Plan) → Leads O.told O.counts plan outside.old outside.new live.old live.new
         (places.opened_if true peer) (IsAt welcomed) result }
     ensures keeps { Keeps (O.counts outside.old) (O.counts outside.new) live.old live.new result }
 {
@@ -64,7 +64,7 @@ fn greet<O: Outside>(live: &mut Live, outside: &mut O, peer: u32) -> Result<(), 
 
 /// Takes the session that a peer opened, if one did: greets it, or hangs it up.
 pub fn welcome<O: Outside>(live: &mut Live, outside: &mut O) -> Result<(), Driven>
-    ensures goes { (run : RelayRun) → Leads O.told O.counts run outside.old outside.new live.old live.new
+    ensures goes { (plan : Plan) → Leads O.told O.counts plan outside.old outside.new live.old live.new
         (placed (λ f. Served)) (IsAt welcomed) result }
     ensures keeps { Keeps (O.counts outside.old) (O.counts outside.new) live.old live.new result }
 {
@@ -87,8 +87,8 @@ fn visit_one<O: Outside>(
     peer: u32,
     what: &Visit,
 ) -> Result<(), Driven>
-    ensures goes { (run : RelayRun) (left : List ℕ)
-        → Leads O.told O.counts run outside.old outside.new live.old live.new
+    ensures goes { (plan : Plan) (left : List ℕ)
+        → Leads O.told O.counts plan outside.old outside.new live.old live.new
         (placed (visiting what.now (peer ∷ left))) (IsAt (visiting what.now left)) result }
     ensures keeps { Keeps (O.counts outside.old) (O.counts outside.new) live.old live.new result }
 {
@@ -117,7 +117,7 @@ fn visit_one<O: Outside>(
 
 /// Visits each accepted session.
 pub fn visit_all<O: Outside>(live: &mut Live, outside: &mut O, what: &Visit) -> Result<(), Driven>
-    ensures goes { (run : RelayRun) → Leads O.told O.counts run outside.old outside.new live.old live.new
+    ensures goes { (plan : Plan) → Leads O.told O.counts plan outside.old outside.new live.old live.new
         (placed (visiting what.now live.old.peers.items)) (IsAt (visiting what.now [])) result }
     ensures keeps { Keeps (O.counts outside.old) (O.counts outside.new) live.old live.new result }
 {
@@ -130,7 +130,7 @@ pub fn visit_all<O: Outside>(live: &mut Live, outside: &mut O, what: &Visit) -> 
 
 /// Publishes what the relay tells, and tells each accepted session what is new of it.
 fn publish<O: Outside>(live: &mut Live, outside: &mut O) -> Result<(), Driven>
-    ensures goes { (run : RelayRun) → Leads O.told O.counts run outside.old outside.new live.old live.new
+    ensures goes { (plan : Plan) → Leads O.told O.counts plan outside.old outside.new live.old live.new
         (published (relayed_state live.old.relay.wc_url live.old.relay.companion.state))
         (IsAt (λ f. Asked f.peers)) result }
     ensures keeps { Keeps (O.counts outside.old) (O.counts outside.new) live.old live.new result }
@@ -145,81 +145,46 @@ fn publish<O: Outside>(live: &mut Live, outside: &mut O) -> Result<(), Driven>
     }
 }
 
-/// Hears the television's session, where it is open. What is new is told to each accepted session.
-pub fn hear_television<O: Outside>(live: &mut Live, outside: &mut O) -> Result<(), Driven>
-    ensures goes { (run : RelayRun) → Leads O.told O.counts run outside.old outside.new live.old live.new
-        (placed welcomed) (IsAt (λ f. Asked f.peers)) result }
+/// Hears the television's session, where it is open. What is new is told to each accepted session. Tells whether the
+/// visit goes on: it ends with the session.
+pub fn hear_television<O: Outside>(live: &mut Live, outside: &mut O) -> Result<bool, Driven>
+    ensures goes { (plan : Plan) → LeadsBy O.told O.counts plan outside.old outside.new live.old live.new
+        (placed welcomed) (λ on. IsAt (goes_on_at (λ f. Asked f.peers) on)) result }
     ensures keeps { Keeps (O.counts outside.old) (O.counts outside.new) live.old live.new result }
 {
+    let was_open = live.own.cii_open.is_some();
     let told = hear(live.alloc, live.relay.companion(), outside, &mut live.own)?;
     if told {
-        return publish(live, outside);
+        publish(live, outside)?;
+        return Ok(true);
+    }
+    if was_open && live.own.cii_open.is_none() {
+        live.parting = Some(Parting::Closed(Session::Cii));
+        return Ok(false);
+    }
+    Ok(true)
+}
+
+/// Hangs up the accepted sessions, in the order in which they came.
+fn hang_up_accepted<O: Outside>(live: &Live, outside: &mut O) -> Result<(), Driven>
+    ensures hangs { Hangs O.told O.counts outside.old outside.new (hung_all live.now.peers.items) result }
+    ensures dials { (O.counts outside.new).dial_faults ≡ (O.counts outside.old).dial_faults }
+    ensures early { IfErr result IsFault }
+{
+    for peer in &live.peers {
+        hang_up(outside, *peer)?;
     }
     Ok(())
 }
 
-/// How many peers come before one.
-fn place(peers: &[u32], peer: u32) -> usize
-    ensures value { result ≡ places.place peer peers.now }
-    ensures within { result ≤ length peers.now }
+/// Hangs up all open sessions: the accepted ones, and then that of the television.
+pub fn hang_up_all<O: Outside>(live: &Live, outside: &mut O) -> Result<(), Driven>
+    ensures hangs { Hangs O.told O.counts outside.old outside.new (hang_ups (facts_in live.now)) result }
+    ensures dials { (O.counts outside.new).dial_faults ≡ (O.counts outside.old).dial_faults }
 {
-    for (i, other) in peers.iter().enumerate() {
-        if *other >= peer {
-            return i;
-        }
+    hang_up_accepted(live, outside)?;
+    match live.own.cii_open {
+        None => Ok(()),
+        Some(television) => hang_up(outside, television),
     }
-    peers.len()
-}
-
-/// Adds a peer before the first greater one.
-fn insert(peers: &mut Vec<u32>, peer: u32) -> Result<(), Memory>
-    ensures { OnOk result (peers.new.items ≡ places.with_peer peer peers.old.items) }
-{
-    let at = place(peers.as_slice(), peer);
-    peers.insert(at, peer)?;
-    Ok(())
-}
-
-/// All open sessions in order of peer, the television's among them.
-fn all_open(live: &Live) -> Result<Vec<u32>, Memory>
-    ensures { IfOk result (λ peers. peers.items ≡ places.all_open (facts_in live.now)) }
-{
-    let mut peers = live.peers.clone()?;
-    if let Some(television) = live.own.cii_open {
-        insert(&mut peers, television)?;
-    }
-    Ok(peers)
-}
-
-/// How a run ends whose turns are made.
-fn ending(live: &Live) -> Driven
-    ensures { result ≡ final (facts_in live.now) }
-{
-    let own = &live.own;
-    if own.cii.is_some() || own.wc.is_some() {
-        Driven::Done
-    } else {
-        Driven::Unreachable { turns: own.made }
-    }
-}
-
-/// Hangs up all open sessions, and ends the run.
-pub fn finish<O: Outside>(live: &Live, outside: &mut O) -> Driven
-    ensures ends { (run : RelayRun) (start : Shown) (history : History)
-        → Stands run start (shown (O.told outside.old) (O.counts outside.old)) live.now.relay
-        (stood live.now (Asked [])) history
-        → goes_on run.limit live.now.own.first live.now.own.turn live.now.own.made ≡ false
-        → Stops run start (shown (O.told outside.new) (O.counts outside.new)) result }
-    ensures dials { (O.counts outside.old).dial_faults ≤ (O.counts outside.new).dial_faults }
-    ensures kind { (result ≡ final (facts_in live.now)) ⊎ IsCut result }
-{
-    let Ok(peers) = all_open(live) else {
-        return Driven::Memory;
-    };
-    for peer in &peers {
-        if let Err(ended) = hang_up(outside, *peer) {
-            return ended;
-        }
-    }
-    ending(live)
 }

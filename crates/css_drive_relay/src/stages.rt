@@ -6,14 +6,13 @@ ghost use Rattle.css_outside.specs.Faults.{HasRisen};
 ghost use Rattle.css_drive.specs.CompanionStanding.{Shown, shown, Calls};
 ghost use Rattle.css_drive_relay.specs.Places.{Taken, Served};
 ghost use Rattle.css_drive_relay.specs.Due.{from_take};
-ghost use Rattle.css_drive_relay.specs.Standing.{Comes, Goes, HasRead, IsAt, Keeps, Knows, Leads, Stands, Stops};
-ghost use Rattle.css_drive_relay.specs.Standing.{placed, stood};
+ghost use Rattle.css_drive_relay.specs.Standing.{Comes, Goes, HasRead, IsAt, Keeps, Knows, Lands, Leads, Stands, Stops};
+ghost use Rattle.css_drive_relay.specs.Standing.{goes_on_at, placed, stood};
 
-use crate::config::RelayRun;
 use crate::live::Live;
+use crate::plan::Plan;
 use crate::television;
-use crate::television::land;
-use css_drive::Driven;
+use css_drive::{Driven, Parting};
 use css_drive::calls::{end_of, send_datagram};
 use css_outside::{Clocked, Outside, Why};
 use css_wc::decode;
@@ -54,8 +53,8 @@ fn respond<O: Outside>(
     bytes: &[u8],
 ) -> Result<(), Driven>
     requires { live.old.relay.companion.client.floor ≤ (O.counts outside.old).last }
-    ensures goes { (run : RelayRun) → is_some (request_in bytes.now) ≡ true
-        → Leads O.told O.counts run outside.old outside.new live.old live.new
+    ensures goes { (plan : Plan) → is_some (request_in bytes.now) ≡ true
+        → Leads O.told O.counts plan outside.old outside.new live.old live.new
         (placed (λ f. Taken peer bytes.now)) (IsAt (λ f. Served)) result }
     ensures keeps { Keeps (O.counts outside.old) (O.counts outside.new) live.old live.new result }
 {
@@ -82,29 +81,45 @@ fn is_request(bytes: &[u8]) -> bool
     }
 }
 
-/// Takes a datagram, if there is one: a request is answered, and anything else lands.
-pub fn serve<O: Outside>(live: &mut Live, outside: &mut O) -> Result<(), Driven>
+/// Takes in a datagram that was just taken, and tells whether the visit goes on: an answer that contradicts those before
+/// it ends it.
+fn land<O: Outside>(live: &mut Live, outside: &mut O, bytes: &[u8]) -> Result<bool, Driven>
     requires { live.old.relay.companion.client.floor ≤ (O.counts outside.old).last }
-    ensures goes { (run : RelayRun) → Goes O.told O.counts run outside.old outside.new live.old live.new
-        from_take (IsAt (λ f. Served)) result }
+    ensures goes { (plan : Plan) (peer : ℕ) → is_some (request_in bytes.now) ≡ false
+        → Lands O.told O.counts plan outside.old outside.new live.old live.new peer bytes.now result }
+    ensures keeps { Keeps (O.counts outside.old) (O.counts outside.new) live.old live.new result }
+{
+    let landed = read(live, outside, Why::Land)?;
+    if landed.slept {
+        // No request from before the sleep is asked any more, so nothing lands.
+        return Ok(true);
+    }
+    let contradicts = or_memory(live.relay.compare(bytes, landed.reading))?;
+    or_memory(live.relay.land(bytes, landed.reading))?;
+    if contradicts {
+        live.parting = Some(Parting::Disagree);
+    }
+    Ok(!contradicts)
+}
+
+/// Takes a datagram, if there is one: a request is answered, and anything else lands. Tells whether the visit goes on.
+pub fn serve<O: Outside>(live: &mut Live, outside: &mut O) -> Result<bool, Driven>
+    requires { live.old.relay.companion.client.floor ≤ (O.counts outside.old).last }
+    ensures goes { (plan : Plan) → Goes O.told O.counts plan outside.old outside.new live.old live.new
+        from_take (λ on. IsAt (goes_on_at (λ f. Served) on)) result }
     ensures keeps { Keeps (O.counts outside.old) (O.counts outside.new) live.old live.new result }
 {
     let mut into = [0u8; 64];
     match outside.take_datagram(&mut into) {
         Err(fault) => Err(end_of(fault)),
-        Ok(None) => Ok(()),
+        Ok(None) => Ok(true),
         Ok(Some((peer, count))) => {
             let bytes = &into[..count];
             if is_request(bytes) {
-                return respond(live, outside, peer, bytes);
+                respond(live, outside, peer, bytes)?;
+                return Ok(true);
             }
-            land(
-                live.alloc,
-                live.relay.companion(),
-                outside,
-                &mut live.own,
-                bytes,
-            )
+            land(live, outside, bytes)
         }
     }
 }

@@ -1,14 +1,11 @@
 //! The calls that a relay makes of the television, by the stages of a companion's run. Nobody observes that run.
-ghost use Rattle.std.specs.Prelude.{◌≡◌, ◌≤◌, MatchResult, OnOk, IfErr, None};
-ghost use Rattle.css_model.specs.declared.Kind.TheVariants as kinds;
+ghost use Rattle.std.specs.Prelude.{◌≡◌, ◌≤◌, OnOk, None};
 ghost use Rattle.css_outside.specs.Faults.{HasRisen};
-ghost use Rattle.css_cii.specs.declared.name.CiiName.TheVariants.{WcUrl};
-ghost use Rattle.css_drive.specs.CompanionDue as dues;
-ghost use Rattle.css_drive.specs.CompanionStanding.{shown, Calls, HasRead, IsCut};
-ghost use Rattle.css_drive.specs.CompanionTurns.{is_asking};
-ghost use Rattle.css_drive.specs.Stages.{DialsOnce, DialsTold, AsksOnce, Lands, FailsLanding, HearsOnce, at_of};
+ghost use Rattle.css_drive.specs.CompanionStanding as companions;
+ghost use Rattle.css_drive.specs.CompanionStanding.{shown, Calls, HasRead};
+ghost use Rattle.css_drive.specs.Stages.{HearsOnce, at, at_of};
 ghost use Rattle.css_drive.specs.declared.session.Session.TheVariants as sessions;
-ghost use Rattle.css_drive_relay.specs.Standing.{Stays};
+ghost use Rattle.css_drive_relay.specs.Standing.{DialsAndAsks, HasDialled, Stays, UnlessFault};
 
 use css_companion::Companion;
 use css_drive::{Driven, Live as Own, Run, Session};
@@ -29,7 +26,6 @@ pub fn read<O: Outside>(
         (λ old new. HasRead old new own.old own.new companion.old companion.new why) result }
     ensures stays { Stays (O.counts outside.old) (O.counts outside.new) own.old own.new companion.old companion.new
         result }
-    ensures cut { IfErr result IsCut }
 {
     let mut run = Run {
         alloc,
@@ -41,100 +37,40 @@ pub fn read<O: Outside>(
     run.read(why)
 }
 
-/// Dials the session of CSS-CII, while no dial of it succeeded.
-pub fn dial_cii<O: Outside>(
-    alloc: Global,
-    companion: &mut Companion,
-    outside: &mut O,
-    own: &mut Own,
-    to: &Address,
-) -> Result<(), Driven>
-    ensures called { DialsOnce None kinds.Cii own.old.cii to.now
-        (at_of (shown (O.told outside.old) (O.counts outside.old)) own.old companion.old)
-        (at_of (shown (O.told outside.new) (O.counts outside.new)) own.new companion.new) result }
-    ensures tried { OnOk result (own.new.cii ≡ None
-        → HasRisen (O.counts outside.old).dial_faults (O.counts outside.new).dial_faults) }
-    ensures stays { Stays (O.counts outside.old) (O.counts outside.new) own.old own.new companion.old companion.new
-        result }
-    ensures cut { IfErr result IsCut }
-{
-    let mut run = Run {
-        alloc,
-        companion,
-        outside,
-        observer: &mut (),
-        live: own,
-    };
-    run.dial_cii(to)
-}
-
-/// Dials the wall clock, while no dial of it succeeded and its address is told.
-pub fn dial_wc<O: Outside>(
-    alloc: Global,
-    companion: &mut Companion,
-    outside: &mut O,
-    own: &mut Own,
-) -> Result<(), Driven>
-    ensures called { DialsTold None kinds.Wc WcUrl own.old.wc (dues.place kinds.Wc companion.old.state.wc_url)
-        (at_of (shown (O.told outside.old) (O.counts outside.old)) own.old companion.old)
-        (at_of (shown (O.told outside.new) (O.counts outside.new)) own.new companion.new) result }
-    ensures stays { Stays (O.counts outside.old) (O.counts outside.new) own.old own.new companion.old companion.new
-        result }
-    ensures cut { IfErr result IsCut }
-{
-    let mut run = Run {
-        alloc,
-        companion,
-        outside,
-        observer: &mut (),
-        live: own,
-    };
-    run.dial_wc()
-}
-
-/// Asks the wall clock, where it was dialled and it is time.
-pub fn ask<O: Outside>(
-    alloc: Global,
-    companion: &mut Companion,
-    outside: &mut O,
-    own: &mut Own,
+/// Makes the calls of [`dial_and_ask`] in a run.
+fn dial_and_ask_in<O: Outside>(
+    run: &mut Run<'_, O, ()>,
+    cii: &Address,
     every: u64,
 ) -> Result<(), Driven>
-    requires { companion.old.client.floor ≤ (O.counts outside.old).last }
-    ensures called { AsksOnce None own.old.wc (is_asking every own.old.turn own.old.asked)
-        (at_of (shown (O.told outside.old) (O.counts outside.old)) own.old companion.old)
-        (at_of (shown (O.told outside.new) (O.counts outside.new)) own.new companion.new) result }
-    ensures stays { Stays (O.counts outside.old) (O.counts outside.new) own.old own.new companion.old companion.new
-        result }
-    ensures cut { IfErr result IsCut }
+    requires { run.old.companion.now.client.floor ≤ (O.counts run.old.outside.now).last }
+    ensures called { DialsAndAsks cii.now every (at O.told O.counts run.old) (at O.told O.counts run.new) result }
+    ensures tried { UnlessFault (HasDialled (O.counts run.old.outside.now) (O.counts run.new.outside.now)
+        run.new.live.now) result }
+    ensures stays { companions.Stays O.counts run.old run.new result }
 {
-    let mut run = Run {
-        alloc,
-        companion,
-        outside,
-        observer: &mut (),
-        live: own,
-    };
+    run.dial_cii(cii)?;
+    run.dial_wc()?;
     run.ask(every)
 }
 
-/// Lands a datagram that was just taken.
-pub fn land<O: Outside>(
+/// Dials the session of CSS-CII and the wall clock, while no dial of them succeeded, and asks the wall clock where it
+/// is time.
+pub fn dial_and_ask<O: Outside>(
     alloc: Global,
     companion: &mut Companion,
     outside: &mut O,
     own: &mut Own,
-    bytes: &[u8],
+    cii: &Address,
+    every: u64,
 ) -> Result<(), Driven>
     requires { companion.old.client.floor ≤ (O.counts outside.old).last }
-    ensures called { MatchResult result (λ _. Lands bytes.now
+    ensures called { DialsAndAsks cii.now every
         (at_of (shown (O.told outside.old) (O.counts outside.old)) own.old companion.old)
-        (at_of (shown (O.told outside.new) (O.counts outside.new)) own.new companion.new))
-        (FailsLanding None (at_of (shown (O.told outside.old) (O.counts outside.old)) own.old companion.old)
-        (at_of (shown (O.told outside.new) (O.counts outside.new)) own.new companion.new)) }
+        (at_of (shown (O.told outside.new) (O.counts outside.new)) own.new companion.new) result }
+    ensures tried { UnlessFault (HasDialled (O.counts outside.old) (O.counts outside.new) own.new) result }
     ensures stays { Stays (O.counts outside.old) (O.counts outside.new) own.old own.new companion.old companion.new
         result }
-    ensures cut { IfErr result IsCut }
 {
     let mut run = Run {
         alloc,
@@ -143,7 +79,7 @@ pub fn land<O: Outside>(
         observer: &mut (),
         live: own,
     };
-    run.land(bytes)
+    dial_and_ask_in(&mut run, cii, every)
 }
 
 /// Hears the session of CSS-CII, where it is open, and tells whether a text came.
@@ -158,7 +94,6 @@ pub fn hear<O: Outside>(
         (at_of (shown (O.told outside.new) (O.counts outside.new)) own.new companion.new) result }
     ensures stays { Stays (O.counts outside.old) (O.counts outside.new) own.old own.new companion.old companion.new
         result }
-    ensures cut { IfErr result IsCut }
 {
     let mut run = Run {
         alloc,

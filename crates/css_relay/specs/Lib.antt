@@ -3,5 +3,6 @@ pub mod Middles
 pub mod Answers
 pub mod Relays
 pub mod Lending
+pub mod Agreeing
 pub mod TwoHops
 pub mod FaultWords

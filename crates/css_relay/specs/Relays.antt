@@ -2,13 +2,15 @@
 use Rattle.std.specs.Prelude.{ℕ, pos, List, ◌++◌, codes}
 use Rattle.std.specs.Fmt.{signed_decimal}
 use Rattle.std.specs.Option.{option_map}
+use Rattle.css_agree.specs.Keeping.{Kept}
 use Rattle.css_cii.specs.declared.state.State.{State}
 use Rattle.css_companion.specs.Standing.{Companion}
 
--- the companion that it is, and where it serves the wall clock
+-- the companion that it is, where it serves the wall clock, and what its answers say together
 pub record Relay : Type 0 where
   pub companion : Companion
   pub wc_url : List ℕ
+  pub agree : Kept
 
 -- `udp://HOST:PORT`
 abbrev pub wc_url_of : List ℕ → ℕ → List ℕ

@@ -9,7 +9,7 @@ ghost use Rattle.css_model.specs.Wire.{encoded, decoded, request_at, stamp_bytes
 ghost use Rattle.css_model.specs.History.{Entry, History, Clock, Sent, Took, Slept, accepted_answers};
 ghost use Rattle.css_span.specs.WallSpans.{wall_span, IsNear};
 ghost use Rattle.css_wc.specs.Datagrams.{HasNoFault};
-ghost use Rattle.css_client.specs.Landings.{landing_of, IsRefusal};
+ghost use Rattle.css_client.specs.Landings.{judged_of, landing_of, IsRefusal};
 ghost use Rattle.css_client.specs.Standing.{AcceptsTheTruth, ContainsTheWall};
 ghost use Rattle.css_cii.specs.Texts.{IsUtf8State};
 ghost use Rattle.css_companion.specs.Contents.{CarriesNoMemory};
@@ -17,6 +17,9 @@ ghost use Rattle.css_companion.specs.Meanings.{state_of};
 ghost use Rattle.css_companion.specs.Standing.{StandsFor, own_of, asleep, wanted_by};
 ghost use Rattle.css_companion.specs.Steps as steps;
 ghost use Rattle.css_companion.specs.declared.fault.CompanionFault.TheVariants as faults;
+ghost use Rattle.css_relay.specs.Agreeing.{Agrees, Compares, Holds};
+ghost use Rattle.css_agree.specs.Disagreements.{IsPossibleAt};
+ghost use Rattle.css_span.specs.Frontiers.{Answers};
 ghost use Rattle.css_relay.specs.Answers.{requested_by, ticket_at, received_after, answered, answered_after};
 ghost use Rattle.css_relay.specs.Answers.{unless_wide, datagram_of, Responds};
 ghost use Rattle.css_relay.specs.Lending.{LendsCompanion};
@@ -29,11 +32,13 @@ use crate::exponent::{exponent_for, greatest_half};
 use crate::fault::RelayFault;
 use crate::middle::{Middle, read_middle};
 use crate::ticket::RelayTicket;
+use css_agree::{Agree, AgreeFault};
 use css_cii::State;
 use css_client::Landing;
 use css_companion::{Companion, CompanionConfig, CompanionEvent, CompanionFault};
 use css_model::{LIMIT, Message, Stamp};
 use css_num::{Memory, Span, Text};
+use css_span::{Answer, Local};
 use css_wc::{decode, encode, stamp_of};
 use std::alloc::Global;
 use std::marker::Model;
@@ -48,6 +53,8 @@ use std::marker::Model;
 pub struct Relay {
     companion: Companion,
     wc_url: Text,
+    /// What the answers say together that were accepted since the last sleep. Where none was, it says nothing.
+    agree: Agree,
 }
 
 // By hand: a derived drop is opened at each exit of each caller's proof.
@@ -56,6 +63,7 @@ impl Drop for Relay {
         let Relay {
             companion: _,
             wc_url: _,
+            agree: _,
         } = self;
     }
 }
@@ -66,7 +74,7 @@ impl Model for Relay {
 
     ghost Value = { Known };
 
-    ghost view = { λ r. record { companion = r.companion; wc_url = r.wc_url } };
+    ghost view = { λ r. record { companion = r.companion; wc_url = r.wc_url; agree = r.agree } };
 
     ghost invariant = { λ r. IsUtf8 r.wc_url };
 }
@@ -87,11 +95,14 @@ impl Relay {
         ensures own { IfOk result (λ relay. own_of relay.companion ≡ config.local) }
         ensures floor { IfOk result (λ relay. relay.companion.client.floor ≡ 0) }
         ensures stands { IfOk result (λ relay. StandsFor relay.companion []) }
+        ensures agrees { IfOk result (λ relay. Agrees config.local relay.agree []) }
     {
         let wc_url = wc_url(alloc, host, port)?;
+        let agree = Agree::new(alloc, config.local);
         Ok(Relay {
             companion: Companion::new(alloc, config)?,
             wc_url,
+            agree,
         })
     }
 
@@ -129,6 +140,7 @@ impl Relay {
             → OnOk result (StandsFor self.new.companion (Clock why.Land reading ∷ Took peer bytes.now ∷ history)) }
         ensures truth { AcceptsTheTruth self.old.companion.client reading bytes.now result }
         ensures wc_url { self.new.wc_url ≡ self.old.wc_url }
+        ensures agree { self.new.agree ≡ self.old.agree }
         ensures keeps { self.new.companion ≡ record self.old.companion { client = self.new.companion.client } }
         ensures own { own_of self.new.companion ≡ own_of self.old.companion }
         ensures refused { IfOk result (λ landing. IsRefusal landing → self.new ≡ self.old) }
@@ -137,6 +149,38 @@ impl Relay {
         ensures err { OnErr result (self.new ≡ self.old) }
     {
         self.companion.land(bytes, reading)
+    }
+
+    /// Adds the answer that a datagram tells, where it is accepted, to those accepted since the last sleep, and says
+    /// whether it contradicts them at this reading, that of its landing. It comes before [`Relay::land`].
+    ///
+    /// A television that contradicts itself has set its clock, or it keeps less than it declares. Then no answer counts
+    /// any more, and the relay is to begin anew.
+    pub fn compare(&mut self, bytes: &[u8], reading: u64) -> Result<bool, Memory>
+        requires { reading < LIMIT }
+        ensures compares { (history : History) → StandsFor self.old.companion history
+            → Agrees (own_of self.old.companion) self.old.agree history
+            → IfOk result (Compares (own_of self.old.companion) reading
+            (judged_of (own_of self.old.companion) history reading bytes.now)
+            (accepted_answers (own_of self.old.companion) history) self.new.agree) }
+        ensures rest { self.new ≡ record self.old { agree = self.new.agree } }
+    {
+        self.forget_stale();
+        let judged = self.companion.judge(bytes, reading);
+        admit(&mut self.agree, &judged, reading)
+    }
+
+    /// Forgets the answers of before a sleep, if no answer was accepted since.
+    fn forget_stale(&mut self)
+        ensures stands { (history : History) → StandsFor self.old.companion history
+            → Agrees (own_of self.old.companion) self.old.agree history
+            → Holds (own_of self.old.companion) self.new.agree
+            (accepted_answers (own_of self.old.companion) history) }
+        ensures rest { self.new ≡ record self.old { agree = self.new.agree } }
+    {
+        if self.companion.kept() == 0 {
+            self.agree.forget();
+        }
     }
 
     /// The relay slept: [`Companion::slept`]. It knows the wall clock again once the television answered it.
@@ -241,6 +285,23 @@ impl Relay {
             self.companion.greatest_error(),
             self.companion.wall(reading),
         )
+    }
+}
+
+/// Adds an answer that was just accepted, if one was, and tells whether it contradicts those before it.
+fn admit(agree: &mut Agree, judged: &Result<Answer, Landing>, reading: u64) -> Result<bool, Memory>
+    requires { reading < LIMIT }
+    ensures { (own : Local) (answers : Answers) → Holds own agree.old answers → IsPossibleAt own reading judged.now
+        → IfOk result (Compares own reading judged.now answers agree.new) }
+{
+    let Ok(answer) = judged else {
+        return Ok(false);
+    };
+    match agree.add(*answer, reading) {
+        Ok(()) => Ok(agree.contradicts(reading)),
+        Err(AgreeFault::Memory) => Err(Memory),
+        // What is judged possible is possible.
+        Err(AgreeFault::Impossible(_)) => Ok(false),
     }
 }
 

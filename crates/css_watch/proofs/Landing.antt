@@ -49,17 +49,17 @@ judged_possible own history reading bytes = by_possible own history reading (awa
 -- ---- a landing
 -- what the companion judges is what the plan's clock judges
 judged_so : (plan : Plan) (reading : ℕ) (bytes : List ℕ) (history : History) (companion : Companion)
-    (result : Result Answer Landing) → Knows plan.run companion history
+    (result : Result Answer Landing) → Knows plan.run.companion companion history
     → ((history : History) → companions.StandsFor companion history
     → result ≡ judged_of (own_of companion) history reading bytes)
     → result ≡ judged plan history reading bytes
 judged_so plan reading bytes history companion result k judges =
-    judges history k.stands ∙ ap (λ x. judged_of x history reading bytes) k.own
+    judges history k.stands ∙ ap (λ x. judged_of x history reading bytes) k.local
 
 pub step_of : (plan : Plan) (reading : ℕ) (bytes : List ℕ) (history : History) (companion : Companion)
     (answers : Answers) (was is : Progress) (old new : Kept) (over : Option OutFault) (parting : Option Parting)
     (held holds : Option (List ℕ)) (before now : ℕ) (result : Result Answer Landing) (text : Result (List ℕ) Memory)
-    (wanted : Option Parting) (accepted : Kept) → Knows plan.run companion history → IsOf plan old answers
+    (wanted : Option Parting) (accepted : Kept) → Knows plan.run.companion companion history → IsOf plan old answers
     → ((history : History) → companions.StandsFor companion history
     → result ≡ judged_of (own_of companion) history reading bytes)
     → IfOk text (λ x. x ≡ text_of (landing_line plan.run.companion.local reading bytes result ∷
@@ -98,7 +98,7 @@ step_of plan reading bytes history companion answers was is old new over parting
 pub failed_of : (plan : Plan) (reading : ℕ) (bytes : List ℕ) (history : History) (companion : Companion)
     (answers : Answers) (was is : Progress) (new : Kept) (over : Option OutFault) (parting : Option Parting)
     (held holds : Option (List ℕ)) (before now : ℕ) (result : Result Answer Landing)
-    → Knows plan.run companion history
+    → Knows plan.run.companion companion history
     → ((history : History) → companions.StandsFor companion history
     → result ≡ judged_of (own_of companion) history reading bytes)
     → is ≡ after_landing result was → over ≡ Some fault.Memory → parting ≡ None → holds ≡ held → now ≡ before

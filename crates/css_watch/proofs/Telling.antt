@@ -237,13 +237,13 @@ slept_on plan start from notes over parting was is old new held holds before now
 pub steps_as : (own plan : Plan) (config : DriveConfig) (companion : Companion) (event : Event) (history : History)
     (was is : Progress) (old new : Kept) (over : Option OutFault) (parting : Option Parting)
     (held holds : Option (List ℕ)) (before now : ℕ) → own ≡ plan → config ≡ plan.run
-    → Knows config companion history
-    → ((history : History) → Knows own.run companion history
+    → Knows config.companion companion history
+    → ((history : History) → Knows own.run.companion companion history
     → Steps own event history was is old new over parting held holds before now)
     → Steps plan event history was is old new over parting held holds before now
 steps_as own plan config companion event history was is old new over parting held holds before now e c k steps =
     let P : Plan → Type 0 = λ x. Steps x event history was is old new over parting held holds before now in
-    let Q : DriveConfig → Type 0 = λ x. Knows x companion history in
+    let Q : DriveConfig → Type 0 = λ x. Knows x.companion companion history in
     subst P e (steps history (subst Q (c ∙ sym (ap {A = Plan} (λ x. x.run) e)) k))
 
 -- an answer was added

@@ -105,7 +105,7 @@ pub(crate) fn report_line(
     requires few { number < 10 ^ 18 }
     requires range { reading < LIMIT }
     requires floor { companion.now.client.floor ≤ reading }
-    ensures { (history : History) → Knows plan.now.run companion.now history → IfOk result
+    ensures { (history : History) → Knows plan.now.run.companion companion.now history → IfOk result
         (λ text. text ≡ text_of (telling.report_line plan.now number reading history progress.now ∷ [])) }
 {
     match companion.report(reading) {
@@ -143,7 +143,7 @@ pub(crate) fn report_due(
 ) -> Option<Report>
     requires range { reading < LIMIT }
     requires floor { companion.now.client.floor ≤ reading }
-    ensures { (history : History) → Knows plan.now.run companion.now history
+    ensures { (history : History) → Knows plan.now.run.companion companion.now history
         → result ≡ spec.report_due plan.now reading history begun.now }
 {
     if reports_now(plan, reading, begun) {
@@ -162,7 +162,7 @@ fn report_text(
 ) -> Result<Text, Memory>
     requires range { reading < LIMIT }
     requires floor { companion.now.client.floor ≤ reading }
-    ensures { (history : History) → Knows plan.now.run companion.now history
+    ensures { (history : History) → Knows plan.now.run.companion companion.now history
         → IfOk result (λ text. text ≡ text_of (telling.report_lines plan.now reading history progress.now)) }
 {
     if reports_now(plan, reading, &progress.begun) {
@@ -182,7 +182,7 @@ pub(crate) fn turn_text(
 ) -> Result<Text, Memory>
     requires range { reading < LIMIT }
     requires floor { companion.now.client.floor ≤ reading }
-    ensures { (history : History) → Knows plan.now.run companion.now history
+    ensures { (history : History) → Knows plan.now.run.companion companion.now history
         → IfOk result (λ text. text ≡ text_of (telling.turn_lines plan.now reading history progress.now)) }
 {
     let mut text = visit_text(alloc, reading, progress)?;

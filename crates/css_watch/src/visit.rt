@@ -242,7 +242,7 @@ fn drive_watching<K: Sink, O: Outside>(
     outside: &mut O,
     watching: &mut Watching<'_, K>,
 ) -> Run
-    requires known { Knows watching.old.plan.now.run companion.old [] }
+    requires known { Knows watching.old.plan.now.run.companion companion.old [] }
     requires floor { companion.old.client.floor ≡ 0 }
     requires bounds { IfSome watching.old.plan.now.run.present IsWindow }
     requires fresh { (begun : Started) × IsFresh watching.old.plan.now begun watching.old.progress
@@ -275,7 +275,7 @@ fn make_run<K: Sink, O: Outside>(
     sink: &mut K,
     outside: &mut O,
 ) -> Run
-    requires known { Knows plan.now.run companion.old [] }
+    requires known { Knows plan.now.run.companion companion.old [] }
     requires floor { companion.old.client.floor ≡ 0 }
     requires bounds { IfSome plan.now.run.present IsWindow }
     ensures run { HasRun plan.now begun

@@ -218,7 +218,7 @@ impl<'a, K: Sink> Watching<'a, K> {
         requires floor { companion.now.client.floor ≤ reading }
         ensures sink_name { self.new.sink.ghost_name ≡ self.old.sink.ghost_name }
         ensures plan { self.new.plan.now ≡ self.old.plan.now }
-        ensures steps { (history : History) → Knows self.old.plan.now.run companion.now history
+        ensures steps { (history : History) → Knows self.old.plan.now.run.companion companion.now history
             → Steps self.old.plan.now (notes.Turn reading) history self.old.progress self.new.progress
             self.old.agree.now self.new.agree.now self.new.over self.new.parting (K.holds self.old.sink.now)
             (K.holds self.new.sink.now) (K.faults self.old.sink.now) (K.faults self.new.sink.now) }
@@ -236,7 +236,7 @@ impl<'a, K: Sink> Watching<'a, K> {
         requires range { reading < LIMIT }
         ensures sink_name { self.new.sink.ghost_name ≡ self.old.sink.ghost_name }
         ensures plan { self.new.plan.now ≡ self.old.plan.now }
-        ensures steps { (history : History) → Knows self.old.plan.now.run companion.now history
+        ensures steps { (history : History) → Knows self.old.plan.now.run.companion companion.now history
             → Steps self.old.plan.now (notes.Landed reading bytes.now) history self.old.progress self.new.progress
             self.old.agree.now self.new.agree.now self.new.over self.new.parting (K.holds self.old.sink.now)
             (K.holds self.new.sink.now) (K.faults self.old.sink.now) (K.faults self.new.sink.now) }

@@ -9,7 +9,7 @@ use Rattle.css_drive_relay.proofs.sessions.greet.Goals as goal
 use Rattle.css_drive_relay.proofs.sessions.greet.Goals.{in-Sent, in-Gone}
 
 pub returns-clause-goes : goal.returns-clause-goes
-returns-clause-goes g c run start h s =
+returns-clause-goes g c plan start h s =
     let pushed = ap {A = List ℕ} {B = Facts} (λ xs. record (facts_in c.args.live.now) { peers = xs })
     (rw c.in_ok-or_memory.ensures.ok at c.push.ensures.items) in
     let text = c.bytes.ensures ∙ (rw c.in_ok-text.ensures.ok at c.full_text.ensures) in

@@ -10,13 +10,13 @@ use Rattle.css_drive_relay.proofs.Steps as steps
 use Rattle.css_drive_relay.proofs.sessions.visit_one.Goals as goal
 
 pub returns-in-Sent-clause-goes : goal.returns-in-Sent-clause-goes
-returns-in-Sent-clause-goes g c run left start h s =
+returns-in-Sent-clause-goes g c plan left start h s =
     rw c.in-Tell.is (steps.here (steps.stands_on (rw c.in-Tell.is at s) (Wrote _ _) (outcome.Sent, refl) tt
     (λ x. (x.0, steps.all_telling (Came h) _ left _ (All-tail (Came h) _ left x.1) x.0, x.2))
     (rw (c.in-Sent.is, c.bytes.ensures) at c.in_ok-send_text-in-Tell.ensures.told)))
 
 pub returns-in-Tell-clause-goes : goal.returns-in-Tell-clause-goes
-returns-in-Tell-clause-goes g c run left start h s =
+returns-in-Tell-clause-goes g c plan left start h s =
     let s1 = rw c.in-Tell.is at s in
     rw (c.in-Tell.is, c.forget.ensures.relay) (steps.here (steps.stands_with (telling c.in-Tell.text left)
     c.forget.ensures.facts (steps.stands_on s1 (Gone _)
@@ -26,12 +26,12 @@ returns-in-Tell-clause-goes g c run left start h s =
     (rw c.in-Gone.is at c.in_ok-send_text-in-Tell.ensures.told))))
 
 pub returns-in-Ok-Quiet-clause-goes : goal.returns-in-Ok-Quiet-clause-goes
-returns-in-Ok-Quiet-clause-goes g c run left start h s =
+returns-in-Ok-Quiet-clause-goes g c plan left start h s =
     rw c.in-Hear.is (steps.here (steps.stands_on (rw c.in-Hear.is at s) (Quiet _) (session.Quiet, refl) tt
     (λ x. (x.0, All-tail (Came h) _ left x.1, x.2)) (rw c.in-Ok-Quiet.field-0-is at c.in-Ok-Quiet.ensures.told)))
 
 pub returns-in-Ok-Closed-clause-goes : goal.returns-in-Ok-Closed-clause-goes
-returns-in-Ok-Closed-clause-goes g c run left start h s =
+returns-in-Ok-Closed-clause-goes g c plan left start h s =
     let s1 = rw c.in-Hear.is at s in
     rw (c.in-Hear.is, c.forget-in-Ok-Closed.ensures.relay) (steps.here (steps.stands_with (λ f. Asked left)
     c.forget-in-Ok-Closed.ensures.facts
@@ -40,7 +40,7 @@ returns-in-Ok-Closed-clause-goes g c run left start h s =
     (rw c.in-Ok-Closed.field-0-is at c.in-Ok-Closed.ensures.told))))
 
 pub returns-clause-goes : goal.returns-clause-goes
-returns-clause-goes g c run left start h s =
+returns-clause-goes g c plan left start h s =
     let s1 = rw c.in-Hear.is at s in
     let x = steps.stands_with (λ f. Dropping c.args.peer left) c.forget-in-Ok-Text.ensures.facts
     (steps.stands_on s1 (Heard _ c.in-Ok-Text.field-0-0) (session.Text _, refl) (steps.its_none s1.runs refl)

@@ -1,7 +1,6 @@
 use Rattle.std.proofs.Common.{◌∙◌, ◌≤◌, ℕ, Option, subst, sym, arith}
 use Rattle.std.specs.Prelude.{IfSome}
-use Rattle.css_drive.proofs.CompanionEnds.{below_most}
-use Rattle.css_drive.proofs.CompanionEnds.{risen_to}
+use Rattle.css_drive.proofs.CompanionEnds.{below_most, early_dials, risen_to}
 use Rattle.css_drive_relay.proofs.Steps as steps
 use Rattle.css_drive_relay.specs.Standing.{facts_in}
 use Rattle.css_drive_relay.proofs.turns.make_turns.Goals as goal
@@ -30,11 +29,11 @@ turns-preserved g c =
 
 pub turn-requires-clause-few : goal.turn-requires-clause-few
 turn-requires-clause-few g c =
-    below_most _ _ _ _ c.args.run.now.limit_range (sym c.goes_on.ensures ∙ c.turns-test.true)
+    below_most _ _ _ _ c.args.plan.now.limit_range (sym c.goes_on.ensures ∙ c.turns-test.true)
 
 pub returns-in-Err-clause-counted : goal.returns-in-Err-clause-counted
 returns-in-Err-clause-counted g c =
-    steps.cut_so _ _ (omega (arith, c.turns.invariant.dials, c.turn.ensures.dials)) _ c.in-Err.ensures.cut
+    early_dials _ _ _ c.in-Err.ensures.early (omega (arith, c.turns.invariant.dials, c.turn.ensures.dials))
 
 pub returns-clause-ends : goal.returns-clause-ends
 returns-clause-ends g c start h s =
@@ -44,9 +43,9 @@ returns-clause-ends g c start h s =
 pub returns-clause-counted : goal.returns-clause-counted
 returns-clause-counted g c =
     let i = c.turns.invariant in
-    let run = c.args.run.now in
+    let plan = c.args.plan.now in
     let live = c.turns.live in
-    let some = steps.was_begun run.limit run.limit_range live.own.first live.own.turn live.own.made i.begun
+    let some = steps.was_begun plan.run.limit plan.limit_range live.own.first live.own.turn live.own.made i.begun
     (sym c.goes_on.ensures ∙ c.turns-test.false) in
     steps.ending_so (facts_in live) _ _ (omega (arith, i.dials, c.finish.ensures.dials))
     (λ none. risen_to _ _ _ c.finish.ensures.dials (i.tried some none)) _ c.finish.ensures.kind

@@ -10,9 +10,9 @@ use Rattle.css_drive_relay.proofs.turns.make_turns.Given as goal
 abbrev pub invariant-turns : goal.invariant-turns
 invariant-turns g l = record {
   goes : (start : Shown) (history : History)
-      → Stands l.run start (shown (g.O.Outside.told l.fn.outside) (g.O.Outside.counts l.fn.outside)) l.fn.live.relay
+      → Stands l.plan start (shown (g.O.Outside.told l.fn.outside) (g.O.Outside.counts l.fn.outside)) l.fn.live.relay
       (stood l.fn.live (Asked [])) history
-      → IsAt (λ f. Asked []) l.run start (shown (g.O.Outside.told l.outside) (g.O.Outside.counts l.outside)) l.live;
+      → IsAt (λ f. Asked []) l.plan start (shown (g.O.Outside.told l.outside) (g.O.Outside.counts l.outside)) l.live;
   floor : l.live.relay.companion.client.floor ≤ (g.O.Outside.counts l.outside).last;
   dials : (g.O.Outside.counts l.fn.outside).dial_faults ≤ (g.O.Outside.counts l.outside).dial_faults;
   tried : HasTried (g.O.Outside.counts l.fn.outside) (g.O.Outside.counts l.outside) l.live;
@@ -20,4 +20,4 @@ invariant-turns g l = record {
 }
 
 abbrev pub decreases-turns : goal.decreases-turns
-decreases-turns g l = most_turns l.run.limit - l.live.own.made
+decreases-turns g l = most_turns l.plan.run.limit - l.live.own.made

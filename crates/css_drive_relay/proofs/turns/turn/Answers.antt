@@ -26,13 +26,13 @@ returns-clause-goes g c on start h s =
 -- No dial is made in the last turn by time. The first reading stays the first, so that turn isn't the first one.
 pub returns-then-is_late-clause-tried : goal.returns-then-is_late-clause-tried
 returns-then-is_late-clause-tried g c before le tried some none =
-    let limit = c.args.run.now.limit in
+    let limit = c.args.plan.now.limit in
     let live = c.args.live.now in
     let reading : ℕ = c.in_ok-reading.field-0.reading in
-    let same = ap {A = Facts} (λ f. f.first) c.in_ok-reading.ensures.told.only in
+    let same = ap {A = Facts} (λ f. f.first) (steps.read_facts c.in_ok-reading.ensures.told) in
     let last = sym c.is_late.ensures ∙ c.if-is_late.true in
     risen_to _ _ _ c.read.ensures.keeps.dials
-    (tried (steps.was_second limit c.args.run.now.limit_range live.own.first live.own.made reading c.requires.begun
+    (tried (steps.was_second limit c.args.plan.now.limit_range live.own.first live.own.made reading c.requires.begun
     (ap {A = Option ℕ} (λ o. is_late limit (Some (unwrap_or o reading)) (Some reading)) (sym same)
     ∙ ap (λ own. is_late limit own.first own.turn) (sym c.begin.ensures) ∙ last))
     (c.read.ensures.keeps.dialled (ap {A = Own} (λ own. own.cii) (sym c.begin.ensures) ∙ none)))

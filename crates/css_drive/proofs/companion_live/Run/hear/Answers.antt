@@ -31,7 +31,7 @@ returns-in_ok-take_in-in-Text-clause-goes g c config before started h s k d =
     let call = rw c.in-Text.is at c.in_ok-take_text.ensures.told in
     calls.text_goes (calls.session_said s which d at (heard.Text text) call
     (c.heard.ensures (standpoint config h) k started _ c.in_ok-check.ensures.on s.saw_so) s.facts)
-    k.stands.client.lawful which is None _ (Ok true) (c.in_ok-take_in-in-Text.ensures.told config p h is k)
+    k.stands.client.lawful which is None _ (Ok true) (c.in_ok-take_in-in-Text.ensures.told config.companion p h is k)
 
 pub returns-in_err-take_in-in-Text-clause-goes : goal.returns-in_err-take_in-in-Text-clause-goes
 returns-in_err-take_in-in-Text-clause-goes g c config before started h s k d =
@@ -45,7 +45,7 @@ returns-in_err-take_in-in-Text-clause-goes g c config before started h s k d =
     (calls.text_goes {T = Bool} (calls.session_said s which d at (heard.Text text) call
     (c.heard.ensures (standpoint config h) k started _ c.in_ok-check.ensures.on s.saw_so) s.facts)
     k.stands.client.lawful which is _ c.take_in.new.companion (Err _)
-    (c.in_err-take_in-in-Text.ensures.told config p h is k))
+    (c.in_err-take_in-in-Text.ensures.told config.companion p h is k))
 
 pub returns-in_ok-let_go-in-Closed-clause-goes : goal.returns-in_ok-let_go-in-Closed-clause-goes
 returns-in_ok-let_go-in-Closed-clause-goes g c config before started h s k d =
@@ -56,7 +56,7 @@ returns-in_ok-let_go-in-Closed-clause-goes g c config before started h s k d =
     let call = rw c.in-Closed.is at c.in_ok-take_text.ensures.told in
     comes (calls.session_said s which d at heard.Closed call
     (c.closed.ensures (standpoint config h) started _ c.in_ok-check.ensures.on s.saw_so)
-    (ap (without p) s.facts ∙ sym c.close.ensures)) (c.in_ok-let_go-in-Closed.ensures.told config p h is k) _
+    (ap (without p) s.facts ∙ sym c.close.ensures)) (c.in_ok-let_go-in-Closed.ensures.told config.companion p h is k) _
     (calls.asked which config (Closed p) p h is refl)
 
 pub returns-in_err-let_go-in-Closed-clause-goes : goal.returns-in_err-let_go-in-Closed-clause-goes
@@ -88,7 +88,7 @@ returns-in_ok-take_in-in-Text-clause-called g c =
       record {
         called = rw c.in-Text.is at c.in_ok-take_text.ensures.told;
         live = refl;
-        known = λ config h is k. c.in_ok-take_in-in-Text.ensures.told config c.in-Some.peer h is k;
+        known = λ own h is k. c.in_ok-take_in-in-Text.ensures.told own c.in-Some.peer h is k;
       },
       refl,
     )
@@ -98,9 +98,8 @@ returns-in_err-take_in-in-Text-clause-called g c =
     rw (sym c.peer_of.ensures ∙ c.in-Some.is) (at_err _ _ _ _ c.from_residual-in_err-take_in-in-Text.ensures.1
     (inr (
       heard.Text c.in-Text.text,
-      c.in_err-take_in-in-Text.ensures.cut,
       rw c.in-Text.is at c.in_ok-take_text.ensures.told,
-      λ config h is k. c.in_err-take_in-in-Text.ensures.told config c.in-Some.peer h is k,
+      λ own h is k. c.in_err-take_in-in-Text.ensures.told own c.in-Some.peer h is k,
     )))
 
 pub returns-in_ok-let_go-in-Closed-clause-called : goal.returns-in_ok-let_go-in-Closed-clause-called
@@ -110,7 +109,7 @@ returns-in_ok-let_go-in-Closed-clause-called g c =
       record {
         called = rw c.in-Closed.is at c.in_ok-take_text.ensures.told;
         live = c.close.ensures;
-        known = λ config h is k. (refl, c.in_ok-let_go-in-Closed.ensures.told config c.in-Some.peer h is k);
+        known = λ own h is k. (refl, c.in_ok-let_go-in-Closed.ensures.told own c.in-Some.peer h is k);
       },
       refl,
     )
@@ -120,7 +119,6 @@ returns-in_err-let_go-in-Closed-clause-called g c =
     rw (sym c.peer_of.ensures ∙ c.in-Some.is) (at_err _ _ _ _ c.from_residual-in_err-let_go-in-Closed.ensures.1
     (inr (
       heard.Closed,
-      rw c.in_err-let_go-in-Closed.ensures.err tt,
       rw c.in-Closed.is at c.in_ok-take_text.ensures.told,
-      λ config h is k. rw c.in_err-let_go-in-Closed.ensures.err tt,
+      λ own h is k. rw c.in_err-let_go-in-Closed.ensures.err tt,
     )))

@@ -10,8 +10,8 @@ returns-then-clocked-clause-called g c = record {
   clocked = c.in_ok-clocked.clocked;
   awake = c.read.new.self.companion.now;
   read = c.in_ok-clocked.ensures.told;
-  known = λ config p h k.
-      let taken = c.in_ok-clocked.ensures.told.known config _ (calls.knows_plain (Took p c.args.bytes.now) k refl refl
+  known = λ own p h k.
+      let taken = c.in_ok-clocked.ensures.told.known own _ (calls.knows_plain (Took p c.args.bytes.now) k refl refl
       refl refl refl refl refl) in
       rw c.if-clocked.true (calls.knows_plain _ (rw c.if-clocked.true at taken) refl refl refl refl refl refl refl);
 }
@@ -21,11 +21,11 @@ returns-in-Ok-clause-called g c = record {
   clocked = c.in_ok-clocked.clocked;
   awake = c.read.new.self.companion.now;
   read = c.in_ok-clocked.ensures.told;
-  known = λ config p h k. rw c.if-clocked.false (
-      let k2 = rw c.if-clocked.false at (c.in_ok-clocked.ensures.told.known config h k) in record {
+  known = λ own p h k. rw c.if-clocked.false (
+      let k2 = rw c.if-clocked.false at (c.in_ok-clocked.ensures.told.known own h k) in record {
         stands = c.in-Ok.ensures.stands h p k2.stands;
         setup = ap (λ x. x.setup) c.in-Ok.ensures.keeps ∙ k2.setup;
-        own = c.in-Ok.ensures.own ∙ k2.own;
+        local = c.in-Ok.ensures.own ∙ k2.local;
       });
 }
 
@@ -34,18 +34,18 @@ unfolding returns-then-clocked-clause-called
 returns-then-clocked-clause-goes g c config before started h p s k =
     let taken = calls.knows_plain (Took p c.args.bytes.now) k refl refl refl refl refl refl refl in
     let read = c.in_ok-clocked.ensures.told in
-    comes (calls.stands_landed s _ read (c.landed.ensures (standpoint _ (_ ∷ h)) (read.known config _ taken) started _
-    c.in_ok-clocked.ensures.on (c.in_ok-clocked.ensures.saw started _ s.saw_so)))
-    ((returns-then-clocked-clause-called g c).known config p h k) _ refl
+    comes (calls.stands_landed s _ read (c.landed.ensures (standpoint _ (_ ∷ h)) (read.known config.companion _ taken)
+    started _ c.in_ok-clocked.ensures.on (c.in_ok-clocked.ensures.saw started _ s.saw_so)))
+    ((returns-then-clocked-clause-called g c).known config.companion p h k) _ refl
 
 pub returns-in-Ok-clause-goes : goal.returns-in-Ok-clause-goes
 unfolding returns-in-Ok-clause-called
 returns-in-Ok-clause-goes g c config before started h p s k =
     let taken = calls.knows_plain (Took p c.args.bytes.now) k refl refl refl refl refl refl refl in
     let read = c.in_ok-clocked.ensures.told in
-    comes (calls.stands_landed s _ read (c.landed.ensures (standpoint _ (_ ∷ h)) (read.known config _ taken) started _
-    c.in_ok-clocked.ensures.on (c.in_ok-clocked.ensures.saw started _ s.saw_so)))
-    ((returns-in-Ok-clause-called g c).known config p h k) _ refl
+    comes (calls.stands_landed s _ read (c.landed.ensures (standpoint _ (_ ∷ h)) (read.known config.companion _ taken)
+    started _ c.in_ok-clocked.ensures.on (c.in_ok-clocked.ensures.saw started _ s.saw_so)))
+    ((returns-in-Ok-clause-called g c).known config.companion p h k) _ refl
 
 pub returns-in-Err-clause-goes : goal.returns-in-Err-clause-goes
 returns-in-Err-clause-goes g c config before started h p s k =

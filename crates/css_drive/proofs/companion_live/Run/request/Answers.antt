@@ -21,10 +21,10 @@ returns-clause-called g c = record {
     read = c.in_ok-clocked.ensures.told;
     bytes = c.ask-bytes.result;
     request = c.ask-bytes.ensures.request;
-    known = λ config h k. record {
+    known = λ own h k. record {
       stands = c.ask-bytes.ensures.stands h c.args.peer k.stands;
       setup = ap (λ x. x.setup) c.ask-bytes.ensures.keeps ∙ k.setup;
-      own = c.ask-bytes.ensures.own ∙ k.own;
+      local = c.ask-bytes.ensures.own ∙ k.local;
     };
   };
   sent = c.in_ok-send_datagram.ensures.told;
@@ -41,10 +41,10 @@ returns-in_err-send_datagram-clause-called g c =
         read = c.in_ok-clocked.ensures.told;
         bytes = c.ask-bytes.result;
         request = c.ask-bytes.ensures.request;
-        known = λ config h k. record {
+        known = λ own h k. record {
           stands = c.ask-bytes.ensures.stands h c.args.peer k.stands;
           setup = ap (λ x. x.setup) c.ask-bytes.ensures.keeps ∙ k.setup;
-          own = c.ask-bytes.ensures.own ∙ k.own;
+          local = c.ask-bytes.ensures.own ∙ k.local;
         };
       },
       fails_over c.in_ok-check.ensures.on c.in_err-send_datagram.ensures.told,
@@ -60,10 +60,10 @@ returns-in_err-check-clause-called g c =
         read = c.in_ok-clocked.ensures.told;
         bytes = c.ask-bytes.result;
         request = c.ask-bytes.ensures.request;
-        known = λ config h k. record {
+        known = λ own h k. record {
           stands = c.ask-bytes.ensures.stands h c.args.peer k.stands;
           setup = ap (λ x. x.setup) c.ask-bytes.ensures.keeps ∙ k.setup;
-          own = c.ask-bytes.ensures.own ∙ k.own;
+          local = c.ask-bytes.ensures.own ∙ k.local;
         };
       },
       c.in_err-check.ensures.unmade _,
@@ -78,7 +78,7 @@ returns-clause-goes g c some config before started h s k d =
     let s1 = calls.stands_asked {after = g.W.Observes.saw started c.note_sleep.new.observer} s d clocked read
     (c.note_sleep.ensures (standpoint config h) started _ c.in_ok-clocked.ensures.on
     (c.in_ok-clocked.ensures.saw started _ s.saw_so)) in
-    let k1 = read.known config h k in
+    let k1 = read.known config.companion h k in
     let wc = ap {A = Live} (λ x. x.wc) s1.facts ∙ ap {A = Live} (λ x. x.wc) read.only ∙ some in
     let e1 = ap (λ o. send_to o (encoded (request_at clocked.reading))) wc
     ∙ ap (λ b. SendDatagram p b) (sym c.ask-bytes.ensures.request) in
@@ -89,7 +89,7 @@ returns-clause-goes g c some config before started h s k d =
     (record {
       stands = c.ask-bytes.ensures.stands _ p k1.stands;
       setup = ap (λ x. x.setup) c.ask-bytes.ensures.keeps ∙ k1.setup;
-      own = c.ask-bytes.ensures.own ∙ k1.own;
+      local = c.ask-bytes.ensures.own ∙ k1.local;
     }) _ refl
 
 pub returns-in_err-send_datagram-clause-goes : goal.returns-in_err-send_datagram-clause-goes

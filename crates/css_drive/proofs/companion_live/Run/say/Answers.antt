@@ -25,7 +25,7 @@ returns-in_ok-tell-in-Gone-clause-goes g c at cfg point before started h s k whe
     comes (calls.ts_sent s at (when.0.1 ∙ when.1) outcome.Gone call
     (c.closed.ensures (standpoint cfg h) started _ c.in_ok-check.ensures.on s.saw_so)
     (ap (without p) s.facts ∙ sym c.close.ensures))
-    (c.in_ok-tell-in-Gone.ensures.ok cfg h (Gone p) k (p, inr refl, calls.open_kind s session.Ts at)) _
+    (c.in_ok-tell-in-Gone.ensures.ok cfg.companion h (Gone p) k (p, inr refl, calls.open_kind s session.Ts at)) _
     (ap text_gone when.0.0, ap (λ x. due_at cfg (text_gone x) (Gone p ∷ h)) when.0.0)
 
 pub returns-in_err-tell-in-Gone-clause-goes : goal.returns-in_err-tell-in-Gone-clause-goes

@@ -16,7 +16,7 @@ returns-then-due-clause-goes g c before started h s k d =
     let clocked : Clocked = c.in_ok-clocked.clocked in
     let cfg = c.args.config.now in
     let live = c.read.new.self.live.now in
-    let known = read.known cfg h k in
+    let known = read.known cfg.companion h k in
     let f = calls.read_facts s read in
     let due = sym c.reports_at-due.ensures ∙ c.if-due.true in
     let report = c.report-report.result in
@@ -34,7 +34,7 @@ returns-clause-goes g c before started h s k d =
     let clocked : Clocked = c.in_ok-clocked.clocked in
     let cfg = c.args.config.now in
     let live = c.read.new.self.live.now in
-    let known = read.known cfg h k in
+    let known = read.known cfg.companion h k in
     let f = calls.read_facts s read in
     let due = sym c.reports_at-due.ensures ∙ c.if-due.false in
     comes (calls.stands_read s read d (subst (g.W.Observes.saw started c.turned.new.self)
