@@ -45,6 +45,7 @@ class Server:
         self.ends = True
         self.udp.close()
         for listener in self.listeners.values():
+            listener.shutdown(socket.SHUT_RDWR)  # Else who waits there might take a connection of another one.
             listener.close()
 
     def clock(self):
