@@ -1,7 +1,7 @@
 """A television of this program's own, for tests/live.py: plain, and bad in several ways."""
 import json, os, random, select, socket, struct, threading, time
 
-from live_edge import Beside, wait_for
+from live_edge import Beside, closed_port, wait_for
 from live_peer import CLOSE, PING, PONG, TEXT, TIMELINE, Peer, accept_key, stamp, start
 
 OFFSET = 5_000_000_000_000
@@ -45,6 +45,7 @@ class Server:
         self.ends = True
         self.udp.close()
         for listener in self.listeners.values():
+            listener.shutdown(socket.SHUT_RDWR)  # Else who waits there might take a connection of another one.
             listener.close()
 
     def clock(self):
@@ -209,8 +210,8 @@ def bad(check, program, port, does, wanted, last):
     check(f"a television with '{does}'", holds, f"status {status}, {end or told}")
 
 
-def nobody(check, program, port):
-    child = start(program, ["companion", "--cii", f"ws://127.0.0.1:{port}/cii", "--turns", "50"])
+def nobody(check, program):
+    child = start(program, ["companion", "--cii", f"ws://127.0.0.1:{closed_port()}/cii", "--turns", "50"])
     check("no television at all is unreachable", child.wait() == 10, child.stderr.read().decode().strip())
 
 
@@ -220,5 +221,6 @@ BAD = (("ts ends", 0, "none SessionClosed"), ("ts cut", 0, "none SessionClosed")
 
 
 def against_companion(port, program, check):
-    Beside([(good, program, port), (lossy, program, port + 2), (nobody, program, port + 4),
-            *[(bad, program, port + 6 + 2 * at, *one) for at, one in enumerate(BAD)]]).tell(check)
+    """Twenty ports."""
+    Beside([(good, program, port), (lossy, program, port + 2), (nobody, program),
+            *[(bad, program, port + 4 + 2 * at, *one) for at, one in enumerate(BAD)]]).tell(check)

@@ -155,7 +155,8 @@ class Listener:
         self.socket.bind((host, port))
         self.socket.listen(64)
         self.port, self.times, self.serve = self.socket.getsockname()[1], [], serve
-        threading.Thread(target=self.take, daemon=True).start()
+        self.thread = threading.Thread(target=self.take, daemon=True)
+        self.thread.start()
 
     def take(self):
         while True:
@@ -174,6 +175,13 @@ class Listener:
             pass
 
     def end(self):
+        """Ends it for good. One that still waited might take a connection of the next one, whose socket may have the
+        same number."""
+        try:
+            self.socket.shutdown(socket.SHUT_RDWR)
+        except OSError:
+            pass
+        self.thread.join()
         self.socket.close()
 
 

@@ -90,15 +90,6 @@ class WallClock:
         self.socket.close()
 
 
-def silence(listener):
-    """Ends a listener for good: nobody is left who waits for a connection."""
-    try:
-        listener.socket.shutdown(socket.SHUT_RDWR)
-    except OSError:
-        pass
-    listener.end()
-
-
 def answer_of(kind, originate, receive, transmit):
     """A datagram that answers a request. The times are nanoseconds, or bytes as they came."""
     times = [time if isinstance(time, bytes) else stamp(time) for time in (originate, receive, transmit)]
@@ -344,7 +335,7 @@ class Set(Television):
         before = self.open["TS"]
         self.listen("TS", self.another_port())
         self.update()
-        silence(before)
+        before.end()
 
     def leave_ts(self, later):
         """Closes CSS-TS, and says so many seconds later where it is now. No answer comes meanwhile. How long it took,
@@ -364,7 +355,7 @@ class Set(Television):
 
     def switch_off(self, how="cut"):
         for kind in ("CII", "TS"):
-            silence(self.open[kind])
+            self.open[kind].end()
         for kind in ("CII", "TS"):
             self.hang_up(kind, how)
         self.clock.end()
