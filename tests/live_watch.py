@@ -413,7 +413,7 @@ def leaves(check, program, port, wanted=6):
             told.append([line["why"] for line in said if line["event"] == "end"])
     stop(child)
     tv.end()
-    check("a set that closes CSS-TS and then moves tsUrl costs one visit",
+    check("a set that closes CSS-TS and then moves tsUrl costs one visit, which the move ends",
           len(told) >= wanted / 2 and all(whys == ["moved tsUrl"] for whys in told), (told, f"{tries} times"))
 
 
