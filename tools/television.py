@@ -350,7 +350,7 @@ class Set(Television):
         self.update()
         took = time.monotonic_ns() - begun
         self.mute = False
-        silence(before)
+        before.end()
         return took
 
     def switch_off(self, how="cut"):
