@@ -154,7 +154,7 @@ class Server:
         return START + (reading + OFFSET - self.began) * 90000 // 1_000_000_000
 
 
-WORDS = ["--reports", "5", "--report-every", "200000000", "--ask-every", "50000000", "--turns", "20000", "--record"]
+WORDS = ["--reports", "5", "--report-every", "500000000", "--ask-every", "50000000", "--turns", "20000", "--record"]
 
 
 def run(port, program, does):
