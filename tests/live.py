@@ -347,8 +347,8 @@ def addresses(port):
 
 
 def pair(port):
-    child = start(PROGRAM, ["pair", "--port", str(port), "--reports", "5", "--report-every", "200000000", "--ask-every",
-                            "50000000", "--turns", "2000"], SCRIPT)
+    child = start(PROGRAM, ["pair", "--port", str(port), "--reports", "5", "--report-every", "500000000", "--ask-every",
+                            "50000000", "--turns", "3000"], SCRIPT)
     lines = child.stdout.read().decode().splitlines()
     told = child.wait(60), lines[-1:]
     check("a pair makes its reports", told[0] == 0 and len(lines) == 5 and lines[-1].startswith("5 ticks "), told)

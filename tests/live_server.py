@@ -133,7 +133,7 @@ class Server:
         self.seen["setup"] = json.loads(peer.hear()[1])
         if self.does == "ts long":
             try:
-                peer.say(b" " * 20_971_520)
+                peer.say(b" " * 1_048_576)
             except OSError:
                 pass
             return
@@ -154,7 +154,7 @@ class Server:
         return START + (reading + OFFSET - self.began) * 90000 // 1_000_000_000
 
 
-WORDS = ["--reports", "5", "--report-every", "200000000", "--ask-every", "50000000", "--turns", "20000", "--record"]
+WORDS = ["--reports", "5", "--report-every", "1000000000", "--ask-every", "50000000", "--turns", "20000", "--record"]
 
 
 def run(port, program, does):

@@ -94,8 +94,8 @@ def running(program, port):
 
 def first_word(check, program, port, word):
     """A pair whose first word is no path of its own file."""
-    words = ["pair", "--port", str(port), "--reports", "3", "--report-every", "200000000", "--ask-every", "50000000",
-             "--turns", "500"]
+    words = ["pair", "--port", str(port), "--reports", "3", "--report-every", "700000000", "--ask-every", "50000000",
+             "--turns", "3000"]
     child = subprocess.Popen([word, *words], executable=program, stdin=subprocess.PIPE, stdout=subprocess.PIPE,
                              stderr=subprocess.PIPE)
     lines, errors = finished(child, SCRIPT.encode())
@@ -109,7 +109,7 @@ def descriptors(check, program, port, most):
     server = Server(port)
     limited = ["sh", "-c", f'ulimit -n {most}; exec "$@"', "sh", *program]
     child = start(limited, ["companion", "--cii", f"ws://127.0.0.1:{port}/cii", "--reports", "2", "--report-every",
-                            "300000000", "--ask-every", "50000000", "--turns", "2000"])
+                            "900000000", "--ask-every", "50000000", "--turns", "2000"])
     lines, errors = child.stdout.read().decode().splitlines(), child.stderr.read().decode().strip()
     status, last = child.wait(60), lines[-1:] or [""]
     made = status == 0 and " ticks " in last[0]

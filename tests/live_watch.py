@@ -385,7 +385,7 @@ def descriptors(check, program, port):
     tv, told = Set(port), []
     for most in (4, 5, 6, 7, 8, 16):
         limited = ["sh", "-c", f'ulimit -n {most}; exec "$@"', "sh", *program]
-        child = companion(limited, port, "--seconds", "2", "--ask-every", str(ASK), "--report-every", str(REPORT),
+        child = companion(limited, port, "--seconds", "4", "--ask-every", str(ASK), "--report-every", str(REPORT),
                           command="watch")
         ticks = b'"ticks"' in child.stdout.read()
         status, lines, _ = told_by(child)

@@ -52,8 +52,12 @@ def right_rows(browser, lines):
         trip = int(line["landed"]) - int(line["originate"]) - int(line["transmit"]) + int(line["receive"])
         wanted = [f"{trip / 1e6:.3f}", f"{int(line['width']) / 1e6:.3f}"]
         check("the last answer has its round trip and its width", browser.rows("answers")[0][1:3] == wanted, wanted)
-    states = [line for line in lines if line["event"] == "state"]
-    check("the state is the last one", states[-1]["state"]["contentId"] in browser.text("state"))
+    wanted = "nothing was told in this visit"
+    for line in lines:
+        if line["event"] in ("visit", "state"):
+            wanted = line["state"]["contentId"] if line["event"] == "state" else "nothing was told in this visit"
+    told = " ".join(browser.text("state").split())
+    check("the state is the last one of its visit", wanted in told, wanted)
 
 
 # ---- a television, live

@@ -90,7 +90,7 @@ class Wrong:
         tv = subprocess.Popen([sys.executable, self.TOOL, "--port", str(self.port), "--every", str(self.EVERY)],
                               text=True, stdout=subprocess.PIPE)
         often = ["--report-every", str(EVERY), "--ask-every", str(EVERY)]
-        seconds = str(self.EVERY * self.WAYS * 3 // 2 + 1)
+        seconds = str(self.EVERY * self.WAYS * 3 // 2 + 2)
         cii = f"ws://127.0.0.1:{self.port}/cii"
         watch = subprocess.Popen([*self.words, "watch", "--cii", cii, *often, "--seconds", seconds],
                                  text=True, stdout=subprocess.PIPE)
