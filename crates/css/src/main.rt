@@ -124,6 +124,7 @@ fn main(rt: HostRuntime) -> ExitCode {
     };
     let mut outside = outside.into_inner();
     outside.end();
+    source.end_lines();
     let number = tell(rt.alloc(), &status, &mut errors).number;
     if let Ok(words) = &words {
         let asked = Asked {
