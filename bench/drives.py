@@ -21,8 +21,8 @@ import subprocess
 import sys
 import tempfile
 
-import refusals
 from programs import build
+import refusals  # It stands in tests/, which `programs` names.
 
 LIBRARIES = [
     "css_num", "css_outside", "css_memory", "css_client", "css_tsmsg", "css_companion", "css_schedule", "css_tv",

@@ -9,15 +9,8 @@ import sys
 import tempfile
 
 HERE = os.path.dirname(os.path.dirname(os.path.abspath(__file__)))
-
-
-def css(named=None):
-    """The path of the program `css`: the one that is named, here or as $CSS; or else the proved one, which is built
-    first by `./css`, where it is missing or older than its sources."""
-    named = named or os.environ.get("CSS")
-    if not named:
-        subprocess.run([os.path.join(HERE, "css"), "replay"], input=b"css-schedule 1 plain 0 -30 0 0 x -\n", check=True)
-    return named or os.path.join(HERE, "crates", "css", "out", "proved", "css")
+sys.path.insert(0, os.path.join(HERE, "tests"))
+from checks import css  # noqa: E402, F401 (the folder comes first, and the others have it from here)
 
 
 def crates_below(names, lines):

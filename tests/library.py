@@ -1,19 +1,20 @@
 #!/usr/bin/env python3
 """Builds programs over the library for companion applications with the machine's gcc and cargo, and runs them.
 
-    tests/library.py [--into DIR] [CSS..]
+    tests/library.py [--over-gate] [--into DIR] [CSS..]
 
-The library is built first, by tools/library.py, into DIR or a folder that is thrown away. What runs, under valgrind
-where there is one:
+The library is built first, by tools/library.py, into DIR or a folder that is thrown away; with --over-gate over the
+libraries that `rt ci` left. What runs, side by side, and under valgrind where there is one:
 
 - each call and each misuse from C, with the exchange of `css replay`'s first example;
 - each allocation refused in turn;
 - random calls, under the address sanitizer instead;
+- the header in C++, and for an ARM machine;
 - the tests of the Rust package;
 - examples/follow and examples/player. They follow a television on loopback that is paused and sought, and whose TS
-  session is closed and opened again: one by hand, or that of css where CSS is a command that runs it.
+  session is closed and opened again: one by hand, or that of css where CSS, or $CSS, is a command that runs it.
 
-The status is 0 where all is well.
+A machine that lacks valgrind, cargo or a compiler is told what was skipped. The status is 0 where all is well.
 """
 import os
 import shutil
@@ -21,11 +22,13 @@ import socket
 import subprocess
 import sys
 import tempfile
+import threading
 import time
 from pathlib import Path
 
 sys.dont_write_bytecode = True
 import live_server
+from checks import Checks, ports
 
 live_server.OFFSET = 0
 
@@ -36,6 +39,7 @@ REPORTS = "60"
 # how many reports they make, and after how many they close their TS session
 WORDS = [REPORTS, "30"]
 WRAPPED = "-Wl,--wrap=malloc,--wrap=realloc,--wrap=free"
+ARM, ARM_HEADER = "aarch64-linux-gnu-gcc", "/usr/aarch64-linux-gnu/include/time.h"
 WARNINGS = ["-Wall", "-Wextra", "-Werror"]
 # What the television shows: nanoseconds from its start, and what happens then.
 SCRIPT = [
@@ -98,11 +102,18 @@ class Television(live_server.Server):
 
 class Suite:
     def __init__(self, library, room):
-        self.library, self.room, self.failed = library, room, 0
-        self.port = 20000 + os.getpid() % 20000
+        self.library, self.room, self.check = library, room, Checks()
+        self.port = ports()
         # the runner of cargo's tests leaves blocks of its own, to which something still points
         memcheck = ["valgrind", "-q", "--leak-check=full", "--error-exitcode=9", "--errors-for-leak-kinds=definite"]
-        self.valgrind = memcheck if shutil.which("valgrind") else []
+        self.valgrind = memcheck if self.has("valgrind", "what memory does") else []
+
+    def has(self, command, what):
+        """Whether the machine has a command, or a file; what can't be tried without it is skipped."""
+        is_there = shutil.which(command) is not None or os.path.exists(command)
+        if not is_there:
+            self.check.skip(what, f"there is no {command}")
+        return is_there
 
     def run(self, what, command, **more):
         """Runs a program, and tells whether it ended well."""
@@ -110,9 +121,8 @@ class Suite:
             command, stdout=subprocess.PIPE, stderr=subprocess.STDOUT, text=True, timeout=600, check=False, **more
         )
         if done.returncode:
-            self.failed += 1
             print(done.stdout[-3000:])
-        print("ok  " if done.returncode == 0 else "FAIL", what, flush=True)
+        self.check(what, done.returncode == 0)
 
     def built(self, sources, *flags):
         """A program of these sources, linked with the library."""
@@ -125,14 +135,18 @@ class Suite:
         exchange = self.built([TESTS / "exchange.c"])
         self.run("each call and each misuse", [*self.valgrind, exchange])
         self.run("each allocation refused", [*self.valgrind, self.built([TESTS / "refused.c"], WRAPPED)])
+        header = self.library / "include" / "css_companion.h"
+        for compiler, words, needed in (("g++", ["-std=c++17", "-x", "c++"], "g++"), (ARM, ["-x", "c"], ARM_HEADER)):
+            if self.has(compiler, f"the header by {compiler}") and self.has(needed, f"the header by {compiler}"):
+                self.run(f"the header by {compiler}", [compiler, *words, *WARNINGS, "-fsyntax-only", header])
+
+    def at_random(self):
         checked = self.built([TESTS / "random.c"], "-fsanitize=address,undefined")
         self.run(f"{RANDOM_CALLS} random calls", [checked, "1", RANDOM_CALLS])
-        header = self.library / "include" / "css_companion.h"
-        self.run("the header in C++", ["g++", "-std=c++17", *WARNINGS, "-fsyntax-only", "-x", "c++", header])
 
     def cargo(self, words, folder):
         """A command of cargo, and the folder and environment that it runs in."""
-        more = {"CSS_COMPANION_DIR": self.library, "CARGO_TARGET_DIR": self.room / "target"}
+        more = {"CSS_COMPANION_DIR": self.library, "CARGO_TARGET_DIR": self.room / "target" / folder.name}
         return {"args": ["cargo", *words, "--offline", "-q"], "cwd": folder, "env": {**os.environ, **more}}
 
     def in_rust(self):
@@ -140,40 +154,60 @@ class Suite:
         for what, words in [("the Rust package's tests", ["test"]), ("its example", ["run", "--example", "quiz"])]:
             ran = self.cargo(words, package)
             self.run(what, ran["args"], cwd=ran["cwd"], env=ran["env"])
-        tests = max((self.room / "target" / "debug" / "deps").glob("calls-*[0-9a-f]"), key=os.path.getmtime)
+        made = self.room / "target" / package.name / "debug" / "deps"
+        tests = max(made.glob("calls-*[0-9a-f]"), key=os.path.getmtime)
         self.run("its tests under valgrind", [*self.valgrind, tests, "--test-threads", "1"])
 
-    def with_television(self, css, what, command):
+    def with_television(self, css, port, what, command):
         """Runs a program that follows a television on loopback. Its words are of a function of the television's URL."""
-        self.port += 2
-        television = Program(css, self.port) if css else Television(self.port)
-        self.run(what, command(f"ws://127.0.0.1:{self.port}/cii"))
+        television = Program(css, port) if css else Television(port)
+        self.run(what, command(f"ws://127.0.0.1:{port}/cii"))
         television.end()
 
-    def applications(self, css):
+    def application_in_c(self, css):
         follow = self.built([EXAMPLES / "follow" / "follow.c", EXAMPLES / "follow" / "session.c"])
-        self.with_television(css, f"{REPORTS} reports, in C", lambda url: [*self.valgrind, follow, url, *WORDS])
-        if not shutil.which("cargo"):
-            return
+        self.with_television(css, self.port, f"{REPORTS} reports, in C",
+                             lambda url: [*self.valgrind, follow, url, *WORDS])
+
+    def application_in_rust(self, css):
         ran = self.cargo(["build", "--release"], EXAMPLES / "player")
         subprocess.run(ran["args"], cwd=ran["cwd"], env=ran["env"], check=True)
-        player = self.room / "target" / "release" / "player"
+        player = self.room / "target" / "player" / "release" / "player"
         sound = self.room / "tones.wav"
-        self.with_television(css, f"{REPORTS} seconds of tones, in Rust", lambda url: [player, url, sound, *WORDS])
+        self.with_television(css, self.port + 2, f"{REPORTS} seconds of tones, in Rust",
+                             lambda url: [player, url, sound, *WORDS])
+
+    def all(self, css):
+        """Makes all of these side by side."""
+        parts = [(self.in_c,), (self.at_random,), (self.application_in_c, css)]
+        if self.has("cargo", "the Rust package and its application"):
+            parts += [(self.in_rust,), (self.application_in_rust, css)]
+        threads = [threading.Thread(target=self.guarded, args=part) for part in parts]
+        for thread in threads:
+            thread.start()
+        for thread in threads:
+            thread.join()
+
+    def guarded(self, part, *words):
+        try:
+            part(*words)
+        except (OSError, subprocess.SubprocessError, ValueError) as error:
+            self.check(f"{part.__name__} goes through", False, error)
 
 
 def main(words):
     with tempfile.TemporaryDirectory() as room:
-        library = Path(room) / "library"
+        library, over = Path(room) / "library", words[:1] if words[:1] == ["--over-gate"] else []
+        words = words[len(over):]
         if words[:1] == ["--into"]:
             library, words = Path(words[1]).resolve(), words[2:]
-        subprocess.run([TOP / "tools" / "library.py", library], check=True)
+        if not shutil.which("gcc"):
+            print("skipped the library: there is no gcc")
+            return 0
+        subprocess.run([TOP / "tools" / "library.py", *over, library], check=True)
         suite = Suite(library, Path(room))
-        suite.in_c()
-        if shutil.which("cargo"):
-            suite.in_rust()
-        suite.applications(words)
-        return 1 if suite.failed else 0
+        suite.all(words or ([os.environ["CSS"]] if os.environ.get("CSS") else []))
+        return suite.check.end()
 
 
 if __name__ == "__main__":

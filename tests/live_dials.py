@@ -1,11 +1,14 @@
-"""A server that refuses is dialled at most three times a second for each kind of session."""
+"""A server that refuses is dialled again and again, and twice a second at most for each kind of session.
+
+Dials of a kind begin at least half a second apart, so the dial of number N, counted from 0, can't come before N half
+seconds after the run began. A busy machine makes it come later, and never sooner."""
 import time
 
-from live_edge import Beside, Listener, closed_port, companion, reset, state, stop, teller, wait_for
+from live_edge import Beside, Listener, companion, reset, state, stop, teller, wait_for
 from live_peer import start
+from own_network import alone, refused_dials, why_not
 
-SECONDS = 3
-MOST = 3 * SECONDS
+DIALS, APART = 8, 0.5
 LONG = ("--turns", "1000000", "--reports", "1000000")
 
 
@@ -31,43 +34,42 @@ def closing(peer):
 
 
 def dialled(check, program, kind, how, serve):
-    """How often a companion dials a server within some seconds of the first dial."""
+    """A companion dials a server."""
     server = Listener(serve)
     television = server if kind == "cii" else Listener(teller(state(timestamps=server.port)))
+    begun = time.monotonic()
     child = companion(program, television.port, *LONG)
-    wait_for(lambda: server.times)
-    time.sleep(SECONDS)
-    count = len(server.times)
+    wait_for(lambda: len(server.times) >= DIALS)
+    times = [at - begun for at in server.times]
     stop(child)
-    check(f"a server of {kind} that {how} is dialled at most 3 times a second", 0 < count <= MOST,
-          f"{count} times in {SECONDS} s")
+    check(f"a server of {kind} that {how} is dialled on and on", len(times) >= DIALS, f"{len(times)} times")
+    early = [round(at, 2) for number, at in enumerate(times) if at < APART * number]
+    check(f"a server of {kind} that {how} is dialled at most twice a second", not early,
+          early or f"the last after {times[-1]:.2f} s" if times else "")
     for one in {server, television}:
         one.end()
 
 
-def fails():
-    """How many connections of this machine were refused so far."""
-    with open("/proc/net/snmp", encoding="ascii") as file:
-        names, counts = [line.split() for line in file if line.startswith("Tcp:")]
-    return int(counts[names.index("AttemptFails")])
-
-
-def refused(check, program, port):
-    """Nobody listens at all. Others on this machine may be refused too, so a few more are let pass."""
-    cii = ["--cii", f"ws://127.0.0.1:{closed_port()}/cii", "--turns", "1000000"]
-    children = [start(program, ["companion", "--reports", "1000000", *cii]),
-                start(program, ["relay", "--port", str(port), *cii])]
-    time.sleep(0.5)
-    before = fails()
-    time.sleep(SECONDS)
-    count = fails() - before
-    for child in children:
-        stop(child)
-    check("a companion and a relay dial a port where nobody listens at most 3 times a second each",
-          count <= 2 * MOST + 6, f"{count} times in {SECONDS} s")
+def refused(check, program, command, words):
+    """Nobody listens at all. What is dialled is counted by the system, in a network of the program's own."""
+    why = why_not()
+    if why:
+        check.skip(f"how often a {command} dials a port where nobody listens", why)
+        return
+    begun = time.monotonic()
+    cii = ["--cii", "ws://127.0.0.1:6699/cii", "--turns", "1000000"]
+    child = start(alone(program), [command, *cii, *words])
+    wait_for(lambda: refused_dials(child.pid) >= DIALS)
+    count = refused_dials(child.pid)
+    took = time.monotonic() - begun
+    stop(child)
+    check(f"a {command} dials a port where nobody listens on and on, and at most twice a second",
+          count >= DIALS and took >= APART * (count - 1), f"{count} times in {took:.2f} s")
 
 
 def dials(port, program, check):
     Beside([(dialled, program, kind, how, serve) for kind in ("cii", "ts")
             for how, serve in (("answers 403", forbidden), ("answers 503", unavailable), ("resets", resetting),
-                               ("hangs up", closing))] + [(refused, program, port)]).tell(check)
+                               ("hangs up", closing))] +
+           [(refused, program, "companion", ["--reports", "1000000"]),
+            (refused, program, "relay", ["--port", str(port)])]).tell(check)

@@ -1,20 +1,25 @@
 """What the checks of the edge share: plain servers for a companion, what a run takes, and checks beside one another."""
 import os, select, socket, struct, threading, time
 
-from live_peer import CLOSE, PING, TEXT, TIMELINE, Peer, accept_key, dial, start
-
-UPGRADED = ("Upgrade: websocket", "Connection: Upgrade")
-FAULTS = (EOFError, OSError, ValueError, IndexError)
+from live_peer import CLOSE, PING, dial, start
+from peer import PATIENCE, UPGRADED, Listener, end_of, greet, state, upgraded  # noqa: F401 (for the others)
 
 
 class Recorder:
-    """Keeps checks, to be told later."""
+    """Keeps checks, and what was skipped, to be told later."""
 
     def __init__(self):
         self.kept = []
 
-    def __call__(self, name, holds, told=""):
-        self.kept.append((name, holds, told))
+    def __call__(self, *told):
+        self.kept.append((False, told))
+
+    def skip(self, *told):
+        self.kept.append((True, told))
+
+    def tell(self, check):
+        for is_skipped, told in self.kept:
+            (check.skip if is_skipped else check)(*told)
 
 
 class Beside:
@@ -38,43 +43,10 @@ class Beside:
         """Waits for all of them, and tells their checks in order."""
         for thread, recorder in zip(self.threads, self.recorders):
             thread.join()
-            for kept in recorder.kept:
-                check(*kept)
+            recorder.tell(check)
 
 
 # ---- servers
-
-class Listener:
-    """Takes connections, notes when each came, and hands it to a function in a thread of its own."""
-
-    def __init__(self, serve, port=0, host="127.0.0.1"):
-        family = socket.AF_INET6 if ":" in host else socket.AF_INET
-        self.socket = socket.socket(family, socket.SOCK_STREAM)
-        self.socket.setsockopt(socket.SOL_SOCKET, socket.SO_REUSEADDR, 1)
-        self.socket.bind((host, port))
-        self.socket.listen(64)
-        self.port, self.times, self.serve = self.socket.getsockname()[1], [], serve
-        threading.Thread(target=self.take, daemon=True).start()
-
-    def take(self):
-        while True:
-            try:
-                conn, _ = self.socket.accept()
-            except OSError:
-                return
-            self.times.append(time.monotonic())
-            conn.setsockopt(socket.IPPROTO_TCP, socket.TCP_NODELAY, 1)
-            threading.Thread(target=self.hand, args=(conn,), daemon=True).start()
-
-    def hand(self, conn):
-        try:
-            self.serve(Peer(conn, False))
-        except FAULTS:
-            pass
-
-    def end(self):
-        self.socket.close()
-
 
 class Clock:
     """A socket of datagrams that answers nothing, and notes when each came."""
@@ -100,31 +72,6 @@ def closed_port():
     with socket.socket(socket.AF_INET, socket.SOCK_STREAM) as one:
         one.bind(("127.0.0.1", 0))
         return one.getsockname()[1]
-
-
-def upgraded(head, lines=UPGRADED):
-    """The answer that makes a session of this head."""
-    keys = [line.split(b":", 1)[1].strip() for line in head.split(b"\r\n")
-            if line.lower().startswith(b"sec-websocket-key:")]
-    told = "\r\n".join(["HTTP/1.1 101 Switching Protocols", *lines, "Sec-WebSocket-Accept: "])
-    return told.encode() + accept_key(keys[0]) + b"\r\n\r\n"
-
-
-def greet(peer, lines=UPGRADED):
-    """Makes a session of a connection. Its head."""
-    head = peer.head()
-    peer.conn.sendall(upgraded(head, lines))
-    return head
-
-
-def state(clock=None, timestamps=None):
-    """A state with a wall clock and timestamps at these ports of this machine."""
-    return {"protocolVersion": "1.1", "contentId": "dvb://1.2.3", "contentIdStatus": "final",
-            "presentationStatus": "okay", "mrsUrl": None, "teUrl": None,
-            "wcUrl": f"udp://127.0.0.1:{clock}" if clock else None,
-            "tsUrl": f"ws://127.0.0.1:{timestamps}/ts" if timestamps else None,
-            "timelines": [{"timelineSelector": TIMELINE,
-                           "timelineProperties": {"unitsPerTick": 1, "unitsPerSecond": 90000}}]}
 
 
 def hold(peer, seconds=60):
@@ -195,7 +142,7 @@ def pauses_of(child, begun, works=False):
     return took - waited - (0 if works else used)
 
 
-def wait_for(holds, seconds=20):
+def wait_for(holds, seconds=PATIENCE):
     """Waits until something holds, and tells whether it does."""
     end = time.monotonic() + seconds
     while not holds() and time.monotonic() < end:
@@ -209,29 +156,7 @@ def reset(conn):
     conn.close()
 
 
-def end_of(peer, seconds=3, over=None):
-    """How a connection ends: the codes of the close frames on it and how many texts came before, and whether it was
-    ended in order, by a reset, or not at all. A close is answered; `over` is set before."""
-    codes, texts = [], 0
-    try:
-        while True:
-            opcode, payload = peer.hear(seconds)
-            texts += opcode == TEXT
-            if opcode == CLOSE:
-                codes.append(struct.unpack(">H", payload[:2])[0] if payload else 1005)
-                if over:
-                    over.set()
-                peer.say(payload, CLOSE)
-                peer.conn.shutdown(socket.SHUT_WR)
-    except EOFError:
-        return codes, texts, "in order"
-    except TimeoutError:
-        return codes, texts, "not at all"
-    except OSError:
-        return codes, texts, "by a reset"
-
-
-def dial_soon(port, path, room=None, host="127.0.0.1", seconds=20):
+def dial_soon(port, path, room=None, host="127.0.0.1", seconds=PATIENCE):
     """A session with a television that may not listen yet."""
     end = time.monotonic() + seconds
     while True:

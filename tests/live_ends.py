@@ -1,15 +1,15 @@
 """How a run ends: each peer is told all texts and a close frame, and no connection is reset."""
 import threading, time
 
-from live_edge import (Beside, Clock, Listener, companion, dial_soon, end_of, greet, long_programme, state, stop,
-                       wait_for)
+from live_edge import (PATIENCE, Beside, Clock, Listener, companion, dial_soon, end_of, greet, has_ended,
+                       long_programme, processor_times, state, stop, wait_for)
 from live_peer import PING, SETUP, start
 
 CONTROL = {"contentTime": "900000", "wallClockTime": "0", "timelineSpeedMultiplier": 1}
 SCRIPT = "0 programme dvb://1\n0 timeline 1 urn:dvb:css:timeline:pts 1 90000 0\n0 change 1\n"
 
 
-def pings_until_close(peer, seconds=20):
+def pings_until_close(peer):
     """Says pings until the session is closed, so that something unread waits at the other end all the time. How the
     session ends."""
     over = threading.Event()
@@ -22,7 +22,7 @@ def pings_until_close(peer, seconds=20):
         except OSError:
             pass
     threading.Thread(target=say, daemon=True).start()
-    codes, _, how = end_of(peer, seconds, over)
+    codes, _, how = end_of(peer, over=over)
     over.set()
     return codes, how
 
@@ -36,7 +36,8 @@ class Television:
     """A server of both sessions that tells these texts after its state, and notes how each session ends."""
 
     def __init__(self, texts, has_ts=True):
-        self.ends, self.clock = {}, Clock()
+        self.ends, self.clock, self.has_ts = {}, Clock(), has_ts
+        self.opened = threading.Event()
         self.timestamps = Listener(self.ts)
         self.texts = [state(self.clock.port, self.timestamps.port if has_ts else None), *texts]
         self.server = Listener(self.cii)
@@ -44,6 +45,8 @@ class Television:
     def cii(self, peer):
         greet(peer)
         peer.say(self.texts[0])
+        if self.has_ts:
+            self.opened.wait(PATIENCE)
         for text in self.texts[1:]:
             time.sleep(0.3)
             peer.say(text)
@@ -52,10 +55,11 @@ class Television:
     def ts(self, peer):
         greet(peer)
         peer.say(CONTROL)
+        self.opened.set()
         self.ends["ts"] = pings_until_close(peer)
 
     def end_of(self, kind):
-        wait_for(lambda: kind in self.ends, 3)
+        wait_for(lambda: kind in self.ends)
         return self.ends.get(kind, "nothing")
 
     def end(self):
@@ -63,12 +67,12 @@ class Television:
             one.end()
 
 
-def of_companion(check, program, name, texts, wanted, words=(), output=None, kinds=("cii", "ts")):
+def of_companion(check, program, name, texts, wanted, every=500_000_000, words=(), output=None, kinds=("cii", "ts")):
     """How a companion's run ends against such a television."""
     server = Television(texts, "ts" in kinds)
     program = program if output is None else ["sh", "-c", f'exec "$@" >{output}', "sh", *program]
-    child = companion(program, server.server.port, "--turns", "3000", "--report-every", "200000000", *words)
-    status = child.wait(30)
+    child = companion(program, server.server.port, "--turns", "3000", "--report-every", str(every), *words)
+    status = child.wait(60)
     told = child.stderr.read().decode().strip()
     stop(child)
     check(f"a companion {name} has its status", status == wanted, (status, told))
@@ -77,7 +81,7 @@ def of_companion(check, program, name, texts, wanted, words=(), output=None, kin
     server.end()
 
 
-def of_television(check, program, port, name, script, wanted, turns="250"):
+def of_television(check, program, port, name, script, wanted, turns="700"):
     """How a television's run ends for two peers."""
     child = start(program, ["tv", "--port", str(port), "--turns", turns], script)
     ends, peers = {}, [("cii", dial_soon(port, "/cii")), ("ts", dial_soon(port + 1, "/ts"))]
@@ -88,7 +92,7 @@ def of_television(check, program, port, name, script, wanted, turns="250"):
         thread.start()
     for thread in threads:
         thread.join()
-    status = child.wait(10)
+    status = child.wait(PATIENCE)
     check(f"a television {name} has its status", status == wanted, (status, child.stderr.read().decode().strip()))
     for kind in ("cii", "ts"):
         told_end(check, f"a television {name}", kind, ends.get(kind, "nothing"))
@@ -98,10 +102,10 @@ def of_television(check, program, port, name, script, wanted, turns="250"):
 def of_relay(check, program, port):
     """How a relay's run ends for its television, and for a peer of its own."""
     server, ends = Television([], False), {}
-    child = companion(program, server.server.port, "--port", str(port), "--turns", "250", command="relay")
+    child = companion(program, server.server.port, "--port", str(port), "--turns", "700", command="relay")
     ends["its peer"] = pings_until_close(dial_soon(port, "/cii"))
     ends["its television"] = server.end_of("cii")
-    check("a relay that made its turns has its status", child.wait(10) == 0, child.stderr.read().decode().strip())
+    check("a relay that made its turns has its status", child.wait(PATIENCE) == 0, child.stderr.read().decode().strip())
     for whose, end in ends.items():
         told_end(check, "a relay that made its turns", whose, end)
     stop(child)
@@ -109,14 +113,18 @@ def of_relay(check, program, port):
 
 
 def texts_at_the_end(check, program, port):
-    """A peer that reads nothing until the end of a run is then told all that was said to it: about a megabyte."""
-    due, count = time.monotonic_ns() + 2_000_000_000, 8
+    """A peer that reads nothing until the end of a run is then told all that was said to it: about a megabyte. It has a
+    second for that, so it reads as soon as another peer is told the close."""
+    due, count, over, end = time.monotonic_ns() + 4_000_000_000, 8, threading.Event(), []
     script = long_programme(1) + long_programme(2)
     script += "".join(f"{due} change {at % 2 + 1}\n" for at in range(count))
-    child = start(program, ["tv", "--port", str(port), "--turns", "700"], script)
+    child = start(program, ["tv", "--port", str(port), "--seconds", "7"], script)
     witness, slow = dial_soon(port, "/cii"), dial_soon(port, "/cii", room=4096)
-    _, wanted, _ = end_of(witness, 20)
-    codes, texts, how = end_of(slow, 3)
+    reader = threading.Thread(target=lambda: (over.wait(PATIENCE), end.append(end_of(slow))))
+    reader.start()
+    _, wanted, _ = end_of(witness, over=over)
+    reader.join()
+    codes, texts, how = end[0]
     check("a peer that is slow at the end of a run is told all texts", texts == wanted and wanted > count // 2,
           f"{texts} of {wanted}")
     check("and the close", (codes, how) == ([1000], "in order"), (codes, how))
@@ -124,14 +132,14 @@ def texts_at_the_end(check, program, port):
 
 
 def held(check, program, port):
-    """Peers that don't answer the close hold the end of a run for a second at most."""
-    child = start(program, ["tv", "--port", str(port), "--turns", "250"], SCRIPT)
+    """Peers that don't answer the close hold the end of a run for a second at most, and not for good."""
+    child = start(program, ["tv", "--port", str(port), "--turns", "700"], SCRIPT)
     peers = [dial_soon(port, "/cii"), dial_soon(port + 1, "/ts")]
-    peers[0].ending(10)
-    begun = time.monotonic()
-    wait_for(lambda: child.poll() is not None, 5)
-    took = time.monotonic() - begun
-    check("peers that don't answer a close hold the end of a run for a second at most", took < 2, f"{took:.2f} s")
+    peers[0].ending()
+    begun, before = time.monotonic(), processor_times(child.pid)[1]
+    wait_for(lambda: has_ended(child))
+    took = time.monotonic() - begun - processor_times(child.pid)[1] + before
+    check("peers that don't answer a close hold the end of a run for a second at most", took < 3, f"{took:.2f} s")
     for peer in peers:
         peer.conn.close()
     stop(child)
@@ -139,13 +147,14 @@ def held(check, program, port):
 
 def ends(port, program, check):
     moved = {**state(), "wcUrl": "udp://127.0.0.1:9"}
-    refused = f"{SCRIPT}{time.monotonic_ns() + 1_500_000_000} speed 65\n"
+    refused = f"{SCRIPT}{time.monotonic_ns() + 4_000_000_000} speed 65\n"
     Beside([
-        (of_companion, program, "that made its reports", [], 0, ("--reports", "5")),
+        (of_companion, program, "that made its reports", [], 0, 500_000_000, ("--reports", "5")),
         (of_companion, program, "that is told no object", [b"[]"], 7),
         (of_companion, program, "whose television moves", [moved], 8),
-        (of_companion, program, "that is told a bad address", [{"tsUrl": "nowhere"}], 13, (), None, ("cii",)),
-        (of_companion, program, "that can't write its reports", [], 5, (), "/dev/full"),
+        (of_companion, program, "that is told a bad address", [{"tsUrl": "nowhere"}], 13, 500_000_000, (), None,
+         ("cii",)),
+        (of_companion, program, "that can't write its reports", [], 5, 3_000_000_000, (), "/dev/full"),
         (of_television, program, port, "that made its turns", SCRIPT, 0),
         (of_television, program, port + 2, "whose script is refused", refused, 2, "2000"),
         (of_relay, program, port + 4),

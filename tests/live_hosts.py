@@ -1,7 +1,7 @@
 """Hosts of a television: what is published is what a peer can dial, from wherever it comes."""
-import socket
+import socket, time
 
-from live_edge import Beside, dial_soon, stop, wait_for
+from live_edge import PATIENCE, Beside, stop
 from live_peer import dial, request, start
 
 SCRIPT = "0 programme dvb://1.2.3\n0 change 1\n"
@@ -27,7 +27,7 @@ def parts_of(url):
 def answers(host, port):
     """Whether a wall clock answers at a host."""
     with socket.socket(socket.AF_INET6 if ":" in host else socket.AF_INET, socket.SOCK_DGRAM) as udp:
-        udp.settimeout(2)
+        udp.settimeout(PATIENCE)
         try:
             udp.connect((host, port))
             udp.send(request(1_000_000_000))
@@ -47,15 +47,26 @@ def is_refused(child, host):
     return child.returncode in (1, 6) and any(host in line or "--host" in line for line in lines)
 
 
+def told_at(child, port, address):
+    """A session with a run at this address; None where the run ended in its place."""
+    while child.poll() is None:
+        try:
+            return dial(port, "/cii", host=address)
+        except (OSError, EOFError):
+            time.sleep(0.02)
+    return None
+
+
 def published(check, program, port, host, reached, command=("tv",)):
     """A television of this host is dialled at these addresses, and what it tells there can be dialled."""
     child = start(program, [*command, "--port", str(port), "--host", host, "--turns", "1000000"], SCRIPT)
     for address in reached:
         name = f"a {command[0]} at {host} tells a peer at {address}"
-        if wait_for(lambda: child.poll() is not None, 0.5):
+        peer = told_at(child, port, address)
+        if peer is None:
             check(f"{name} what it can dial, or is refused with a sentence", is_refused(child, host), child.returncode)
             break
-        state = dial_soon(port, "/cii", host=address, seconds=5).told()
+        state = peer.told()
         clock = parts_of(state.get("wcUrl") or "udp://none:0")
         check(f"{name} a wcUrl that it can dial", same(clock[0], address) and answers(*clock), state.get("wcUrl"))
         if command[0] == "tv":
@@ -73,10 +84,10 @@ def relayed(check, program, port, reached):
                             "0.0.0.0", "--turns", "1000000"])
     for address in reached:
         name = f"a relay at 0.0.0.0 tells a peer at {address}"
-        if wait_for(lambda: child.poll() is not None, 0.5):
+        peer, state = told_at(child, port + 2, address), {}
+        if peer is None:
             check(f"{name} what it can dial, or is refused with a sentence", is_refused(child, "0.0.0.0"))
             break
-        peer, state = dial_soon(port + 2, "/cii", host=address, seconds=5), {}
         while not state.get("wcUrl") and (more := peer.told()):
             state |= more
         clock = parts_of(state.get("wcUrl") or "udp://none:0")

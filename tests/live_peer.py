@@ -1,122 +1,11 @@
-"""A plain peer of `css` on real sockets, by hand: WebSocket frames and handshakes, requests of the wall clock, and the
-start of the program. tests/live.py and bench/live.py are made of it."""
-import atexit, base64, hashlib, json, os, select, socket, struct, subprocess, time
+"""A plain peer of `css` on real sockets: sessions that it dials, requests of the wall clock, and the start of the
+program. tests/live.py and bench/live.py are made of it."""
+import atexit, base64, os, pathlib, socket, subprocess, sys, time
 
-TEXT, CLOSE, PING, PONG = 1, 8, 9, 10
-TIMELINE = "urn:dvb:css:timeline:pts"
+sys.path.insert(0, str(pathlib.Path(__file__).resolve().parent.parent / "tools"))
+from peer import CLOSE, PATIENCE, PING, PONG, TEXT, TIMELINE, Peer, accept_key, frame, nanos, stamp  # noqa: E402, F401
+
 SETUP = {"contentIdStem": "dvb://", "timelineSelector": TIMELINE}
-
-
-def accept_key(key):
-    return base64.b64encode(hashlib.sha1(key + b"258EAFA5-E914-47DA-95CA-C5AB0DC85B11").digest())
-
-
-def frame(opcode, payload, fin=True, masked=True):
-    """One frame as bytes."""
-    length = len(payload)
-    mark = 0x80 if masked else 0
-    head = bytes([(0x80 if fin else 0) | opcode])
-    if length < 126:
-        head += bytes([mark | length])
-    elif length < 65536:
-        head += struct.pack(">BH", mark | 126, length)
-    else:
-        head += struct.pack(">BQ", mark | 127, length)
-    if not masked:
-        return head + payload
-    mask = os.urandom(4)
-    whole = int.from_bytes((mask * (length // 4 + 1))[:length], "big") ^ int.from_bytes(payload, "big")
-    return head + mask + whole.to_bytes(length, "big")
-
-
-class Peer:
-    """One end of a WebSocket over a connected socket."""
-
-    def __init__(self, conn, masked):
-        self.conn, self.masked, self.bytes = conn, masked, b""
-
-    def take(self, count, seconds):
-        end = time.monotonic() + seconds
-        while len(self.bytes) < count:
-            if not select.select([self.conn], [], [], max(0, end - time.monotonic()))[0]:
-                raise TimeoutError
-            more = self.conn.recv(65536)
-            if not more:
-                raise EOFError
-            self.bytes += more
-        taken, self.bytes = self.bytes[:count], self.bytes[count:]
-        return taken
-
-    def head(self, seconds=3):
-        """An HTTP head."""
-        head = b""
-        while not head.endswith(b"\r\n\r\n"):
-            head += self.take(1, seconds)
-        return head
-
-    def say(self, payload, opcode=TEXT, fin=True):
-        data = payload if isinstance(payload, bytes) else json.dumps(payload).encode()
-        self.conn.sendall(frame(opcode, data, fin, self.masked))
-
-    def hear(self, seconds=3):
-        """The next frame: its opcode and its payload. A client's frames are masked, a server's aren't."""
-        first, second = self.take(2, seconds)
-        length = second & 0x7F
-        if length == 126:
-            length = struct.unpack(">H", self.take(2, seconds))[0]
-        elif length == 127:
-            length = struct.unpack(">Q", self.take(8, seconds))[0]
-        if bool(second & 0x80) == self.masked or not first & 0x80:
-            raise ValueError("a frame is masked where it must not be, or isn't where it must, or is a fragment")
-        mask = self.take(4, seconds) if second & 0x80 else b"\0\0\0\0"
-        payload = self.take(length, seconds)
-        return first & 15, bytes(byte ^ mask[at % 4] for at, byte in enumerate(payload))
-
-    def text(self, seconds=3):
-        """The next text as a value; what else comes is passed over."""
-        while True:
-            opcode, payload = self.hear(seconds)
-            if opcode == TEXT:
-                return json.loads(payload)
-            if opcode == CLOSE:
-                raise EOFError
-
-    def answers(self, payload):
-        """Whether a ping is answered by its own pong, and nothing comes before that."""
-        try:
-            self.say(payload, PING)
-            return self.hear() == (PONG, payload)
-        except (EOFError, OSError):
-            return False
-
-    def told(self):
-        """The next text; an empty one where none comes, or the session ends first."""
-        try:
-            return self.text()
-        except (EOFError, OSError):
-            return {}
-
-    def ending(self, seconds=3):
-        """How the session ends: the code of the close frame, None where the connection ends without one."""
-        try:
-            while True:
-                opcode, payload = self.hear(seconds)
-                if opcode == CLOSE:
-                    return struct.unpack(">H", payload[:2])[0] if payload else 1005
-        except (EOFError, ConnectionError):
-            return None
-        except TimeoutError:
-            return "nothing"
-
-    def has_ended(self, seconds=3):
-        """Whether the connection ends; what comes before is passed over."""
-        try:
-            while True:
-                self.take(1, seconds)
-        except (EOFError, ConnectionError):
-            return True
-        except TimeoutError:
-            return False
 
 
 def connection(port, room=None, host="127.0.0.1"):
@@ -125,7 +14,7 @@ def connection(port, room=None, host="127.0.0.1"):
     if room is not None:
         conn.setsockopt(socket.SOL_SOCKET, socket.SO_RCVBUF, room)
         conn.setsockopt(socket.IPPROTO_TCP, socket.TCP_MAXSEG, 536)  # The other end keeps less, too.
-    conn.settimeout(5)
+    conn.settimeout(PATIENCE)
     conn.connect((host, port))
     conn.setsockopt(socket.IPPROTO_TCP, socket.TCP_NODELAY, 1)
     return conn
@@ -168,15 +57,6 @@ def sets_up(port):
         return "contentTime" in set_up(port)[1]
     except (EOFError, OSError):
         return False
-
-
-def stamp(nanos):
-    return struct.pack(">II", *divmod(nanos, 1_000_000_000))
-
-
-def nanos(bytes8):
-    seconds, rest = struct.unpack(">II", bytes8)
-    return seconds * 1_000_000_000 + rest
 
 
 def request(now):

@@ -1,7 +1,8 @@
 """A television of this program's own, for tests/live.py: plain, and bad in several ways."""
 import json, os, random, select, socket, struct, threading, time
 
-from live_peer import CLOSE, PING, PONG, TEXT, TIMELINE, Peer, accept_key, nanos, stamp, start
+from live_edge import Beside, closed_port, wait_for
+from live_peer import CLOSE, PING, PONG, TEXT, TIMELINE, Peer, accept_key, stamp, start
 
 OFFSET = 5_000_000_000_000
 START = 900_000
@@ -44,6 +45,7 @@ class Server:
         self.ends = True
         self.udp.close()
         for listener in self.listeners.values():
+            listener.shutdown(socket.SHUT_RDWR)  # Else who waits there might take a connection of another one.
             listener.close()
 
     def clock(self):
@@ -131,7 +133,7 @@ class Server:
         self.seen["setup"] = json.loads(peer.hear()[1])
         if self.does == "ts long":
             try:
-                peer.say(b" " * 20_971_520)
+                peer.say(b" " * 1_048_576)
             except OSError:
                 pass
             return
@@ -147,60 +149,78 @@ class Server:
             for _ in range(20000):
                 peer.say(b"f" * 100, PING)
 
-    def tick(self):
-        return START + (wall() - self.began) * 90000 // 1_000_000_000
+    def tick(self, reading):
+        """The tick that the control timestamp assigns to this reading of the machine's clock."""
+        return START + (reading + OFFSET - self.began) * 90000 // 1_000_000_000
 
 
-WORDS = ["--reports", "5", "--report-every", "200000000", "--ask-every", "50000000", "--turns", "20000"]
+WORDS = ["--reports", "5", "--report-every", "1000000000", "--ask-every", "50000000", "--turns", "20000", "--record"]
 
 
-def run(port, program, does, words=()):
-    """A companion's run against such a television: its lines with the ticks when they came, its status, and what was
-    seen of it."""
+def run(port, program, does):
+    """A companion's run against such a television: its reports with the ticks that were true when they were made, its
+    status, and what was seen of it. The record tells the reading at which a report was made."""
     server = Server(port, does)
-    child = start(program, ["companion", "--cii", f"ws://127.0.0.1:{port}/cii", *WORDS, *words])
-    lines = []
+    child = start(program, ["companion", "--cii", f"ws://127.0.0.1:{port}/cii", *WORDS])
+    lines, reading = [], 0
     for line in child.stdout:
-        lines.append((line.decode().strip(), server.tick()))
+        verb, _, rest = line.decode().strip().partition(" ")
+        if verb == "turn":
+            reading = int(rest)
+        if verb == "report":
+            lines.append((rest, server.tick(reading)))
     status = child.wait()
     told = child.stderr.read().decode().strip()
-    time.sleep(0.1)
     server.end()
     return lines, status, server.seen, told
 
 
 def are_true(lines):
-    """Each interval contains the tick that was assigned shortly before its line came: at most 100 ms."""
+    """Each interval contains the tick of its reading."""
     rows = [(line.split(), tick) for line, tick in lines if " ticks " in line]
-    return bool(rows) and all(int(w[2]) <= tick and tick - 9000 <= int(w[3]) for w, tick in rows)
+    return bool(rows) and all(int(row[2]) <= tick <= int(row[3]) for row, tick in rows)
 
 
 def widths(lines):
     return [int(line.split()[3]) - int(line.split()[2]) for line, _ in lines if " ticks " in line]
 
 
-def against_companion(port, program, check):
+def good(check, program, port):
     lines, status, seen, told = run(port, program, "")
     last = lines[-1][0] if lines else told
     check("a companion makes its reports", status == 0 and len(lines) == 5 and last.startswith("5 ticks "), last)
     check("they are true", are_true(lines), widths(lines))
     wanted = {"contentIdStem": "", "timelineSelector": TIMELINE}
     check("its setup is told", seen.get("setup") == wanted, seen.get("setup"))
-    check("its pong is masked and right", seen.get("cii pong") == b"p")
-    check("it hangs up in the end", seen.get("ts close") == 1000 and seen.get("cii close") == 1000)
-    port += 2
-    lines, status, _, told = run(port, program, "lossy")
+    check("its pong is masked and right", wait_for(lambda: seen.get("cii pong") == b"p"))
+    check("it hangs up in the end", wait_for(lambda: seen.get("ts close") == 1000 and seen.get("cii close") == 1000))
+
+
+def lossy(check, program, port):
+    lines, status, _, _ = run(port, program, "lossy")
     check("lost, repeated and reordered answers leave true reports", status == 0 and are_true(lines), widths(lines))
-    for does, wanted, last in (("ts ends", 0, "none SessionClosed"), ("ts cut", 0, "none SessionClosed"),
-                               ("ts long", 0, "none NoTimestamp"), ("ts flood", 0, " ticks "),
-                               ("ts garbage", 0, "none NoTimestamp"), ("ts mute", 0, "none NoTimestamp"),
-                               ("cii bad", 7, ""), ("cii garbage", 0, "none NoAnswer")):
-        port += 2
-        lines, status, seen, told = run(port, program, does)
-        end = lines[-1][0] if lines else ""
-        holds = status == wanted and last in end
-        if does == "ts long":
-            holds = holds and seen.get("ts close") == 1009
-        check(f"a television with '{does}'", holds, f"status {status}, {end or told}")
-    child = start(program, ["companion", "--cii", f"ws://127.0.0.1:{port + 2}/cii", "--turns", "50"])
+
+
+def bad(check, program, port, does, wanted, last):
+    lines, status, seen, told = run(port, program, does)
+    end = lines[-1][0] if lines else ""
+    holds = status == wanted and last in end
+    if does == "ts long":
+        holds = holds and wait_for(lambda: seen.get("ts close") == 1009)
+    check(f"a television with '{does}'", holds, f"status {status}, {end or told}")
+
+
+def nobody(check, program):
+    child = start(program, ["companion", "--cii", f"ws://127.0.0.1:{closed_port()}/cii", "--turns", "50"])
     check("no television at all is unreachable", child.wait() == 10, child.stderr.read().decode().strip())
+
+
+BAD = (("ts ends", 0, "none SessionClosed"), ("ts cut", 0, "none SessionClosed"), ("ts long", 0, "none NoTimestamp"),
+       ("ts flood", 0, " ticks "), ("ts garbage", 0, "none NoTimestamp"), ("ts mute", 0, "none NoTimestamp"),
+       ("cii bad", 7, ""), ("cii garbage", 0, "none NoAnswer"))
+
+
+def against_companion(port, program, check):
+    """Twenty ports."""
+    Beside([(good, program, port), (lossy, program, port + 2), (nobody, program),
+            *[(bad, program, port + 4 + 2 * at, *one) for at, one in enumerate(BAD)]]).tell(check)

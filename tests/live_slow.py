@@ -1,27 +1,18 @@
-#!/usr/bin/env python3
 """A peer that reads slowly, but takes all in the end.
 
 How much the system keeps for a sender decides how much a program must keep itself, and mostly that is a lot. So this
 runs in a network of its own, in which it is little:
 
-    unshare -r -n tests/live_slow.py PROGRAM ..
+    unshare -r -n python3 tests/own_network.py python3 tests/live_slow.py PROGRAM ..
 """
-import fcntl, json, os, select, socket, struct, subprocess, sys, time
+import json, os, select, subprocess, sys, time
 
-from live_edge import dial_soon, long_programme, stop
+from live_edge import PATIENCE, dial_soon, long_programme, stop
 from live_peer import Peer, start
+from own_network import alone, why_not
 
-TEXTS, EACH, PORT = 44, 0.4, 6677
+TEXTS, EACH, PORT = 44, 0.8, 6677
 KEPT = "/proc/sys/net/ipv4/tcp_wmem"
-SET_FLAGS, UP_AND_RUNNING = 0x8914, 0x41
-
-
-def make_network():
-    """Makes this network usable: its loopback is up, and a sender has 64 KiB at most."""
-    with socket.socket(socket.AF_INET, socket.SOCK_DGRAM) as one:
-        fcntl.ioctl(one, SET_FLAGS, struct.pack("16sh14x", b"lo", UP_AND_RUNNING))
-    with open(KEPT, "w", encoding="ascii") as file:
-        file.write("4096 16384 65536\n")
 
 
 class SlowPeer(Peer):
@@ -45,7 +36,7 @@ def read_all(peer):
     texts, count = 0, 0
     try:
         while texts < TEXTS:
-            texts, count = texts + 1, count + len(peer.hear(15)[1])
+            texts, count = texts + 1, count + len(peer.hear(PATIENCE)[1])
         return texts, count, "it stays" if peer.answers(b"still") else "it is gone"
     except (EOFError, OSError) as error:
         return texts, count, repr(error)
@@ -68,16 +59,30 @@ def try_it(program):
 
 def slow_reader(check, program):
     """Tries it in a network of its own."""
-    own = ["unshare", "-r", "-n", sys.executable, os.path.abspath(__file__), *program]
-    done = subprocess.run(own, capture_output=True, timeout=90)
-    if not done.stdout:
-        print(f"skipped a slow reader: {done.stderr.decode().strip().splitlines()[-1:]}", flush=True)
+    why = why_not()
+    if why:
+        check.skip("a slow reader", why)
         return
-    texts, count, end = json.loads(done.stdout)
+    own = alone([sys.executable, os.path.abspath(__file__), *program])
+    done = subprocess.run(own, capture_output=True, check=False, timeout=300)
+    told = json.loads(done.stdout or "[0, 0, \"it didn't run\"]")
+    if isinstance(told, str):
+        check.skip("a slow reader", told)
+        return
+    texts, count, end = told
     check("a peer that is slow, but takes all in the end, isn't hung up after 4 MiB",
           texts == TEXTS and end == "it stays", f"{texts} texts of {TEXTS}, {count} bytes, then {end}")
 
 
+def main(program):
+    """A sender has 64 KiB at most, where that can be set. Else why it can't."""
+    try:
+        with open(KEPT, "w", encoding="ascii") as file:
+            file.write("4096 16384 65536\n")
+    except OSError as error:
+        return str(error)
+    return try_it(program)
+
+
 if __name__ == "__main__":
-    make_network()
-    print(json.dumps(try_it(sys.argv[1:])))
+    print(json.dumps(main(sys.argv[1:])))

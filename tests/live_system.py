@@ -1,9 +1,11 @@
-"""What the system may do to a run: streams that don't block, a first word that is another path, few descriptors."""
+"""What the system may do to a run: streams that don't block, are closed or that nobody reads, a first word that is
+another path, few descriptors."""
 import os, subprocess, threading, time
 
 from live_edge import Beside, dial_soon, processor_times, stop
 from live_peer import start
 from live_server import Server
+from live_standard import standard
 
 SCHEDULE = os.path.join(os.path.dirname(os.path.abspath(__file__)), "..", "examples", "evening.schedule")
 SCRIPT = "0 programme dvb://1.2.3\n0 timeline 1 urn:dvb:css:timeline:pts 1 90000 900000\n0 change 1\n"
@@ -17,7 +19,7 @@ def run(program, words, given=b""):
 
 def finished(child, given=None):
     """What a run writes to both streams; it is ended where it takes too long."""
-    timer = threading.Timer(30, child.kill)
+    timer = threading.Timer(60, child.kill)
     timer.start()
     told = child.communicate(given)
     timer.cancel()
@@ -65,7 +67,7 @@ def slow_output(check, program):
     child = subprocess.Popen(program + words, stdin=subprocess.DEVNULL, stdout=unblocking(sink),
                              stderr=subprocess.PIPE)
     os.close(sink)
-    timer, written = threading.Timer(30, child.kill), b""
+    timer, written = threading.Timer(60, child.kill), b""
     timer.start()
     time.sleep(0.5)
     while more := os.read(source, 4096):
@@ -92,8 +94,8 @@ def running(program, port):
 
 def first_word(check, program, port, word):
     """A pair whose first word is no path of its own file."""
-    words = ["pair", "--port", str(port), "--reports", "3", "--report-every", "200000000", "--ask-every", "50000000",
-             "--turns", "500"]
+    words = ["pair", "--port", str(port), "--reports", "3", "--report-every", "700000000", "--ask-every", "50000000",
+             "--turns", "3000"]
     child = subprocess.Popen([word, *words], executable=program, stdin=subprocess.PIPE, stdout=subprocess.PIPE,
                              stderr=subprocess.PIPE)
     lines, errors = finished(child, SCRIPT.encode())
@@ -107,9 +109,9 @@ def descriptors(check, program, port, most):
     server = Server(port)
     limited = ["sh", "-c", f'ulimit -n {most}; exec "$@"', "sh", *program]
     child = start(limited, ["companion", "--cii", f"ws://127.0.0.1:{port}/cii", "--reports", "2", "--report-every",
-                            "300000000", "--ask-every", "50000000", "--turns", "2000"])
+                            "900000000", "--ask-every", "50000000", "--turns", "2000"])
     lines, errors = child.stdout.read().decode().splitlines(), child.stderr.read().decode().strip()
-    status, last = child.wait(30), lines[-1:] or [""]
+    status, last = child.wait(60), lines[-1:] or [""]
     made = status == 0 and " ticks " in last[0]
     check(f"a companion with {most} descriptors makes its reports, or tells that it can't",
           made or (status != 0 and errors.startswith("css: ")), (status, last[0], errors))
@@ -120,7 +122,7 @@ def system(port, program, check):
     file, words = running(program, port)
     first = ("/no/such/css", "/bin/true", "css")
     if len(words) > 1:
-        print("skipped first words: a loader runs the program", flush=True)
+        check.skip("first words that are no path of the program", "a loader runs the program")
         first = ()
     Beside([
         (quiet_input, program),
@@ -128,3 +130,4 @@ def system(port, program, check):
         *[(first_word, file, port + 2 * at, word) for at, word in enumerate(first)],
         *[(descriptors, words, port + 6 + 2 * at, most) for at, most in enumerate((4, 5, 6, 7, 8))],
     ]).tell(check)
+    standard(port, program, check)

@@ -1,19 +1,24 @@
 """Runs that last as long as they are asked to: under a flood of datagrams too, and with script times from the start."""
 import socket, time
 
-from live_edge import Beside, Listener, closed_port, companion, dial_soon, stop
+from live_edge import (PATIENCE, Beside, Listener, closed_port, companion, dial_soon, has_ended, processor_times, stop,
+                       wait_for)
 from live_peer import start, television
 
 SCRIPT = "0 programme dvb://1\n0 programme dvb://2\n0 timeline 1 urn:dvb:css:timeline:pts 1 90000 0\n0 change 1\n"
 LATER = 1_000_000_000
+LATE = 4  # Seconds in which a run has ended that was on a processor when it wanted to.
 
 
-def lasted(check, name, child, seconds, status, begun, late=1.5):
-    """Whether a run that was begun then ended after so many seconds, and with this status."""
-    ended = child.wait(60)
+def lasted(check, name, child, seconds, status, begun):
+    """Whether a run that was begun then ended after so many seconds, and with this status. The time in which it waited
+    for a processor isn't its own."""
+    wait_for(lambda: has_ended(child), 60)
     took = time.monotonic() - begun
+    late = took - processor_times(child.pid)[1] - seconds
+    ended = child.wait(PATIENCE)
     told = child.stderr.read().decode().splitlines()
-    check(f"{name} ends when its time is over", seconds <= took < seconds + late and ended == status,
+    check(f"{name} ends when its time is over", took >= seconds and late < LATE and ended == status,
           f"{took:.2f} s, status {ended}, {told[:1]}")
     stop(child)
     return told
@@ -26,7 +31,7 @@ def flooded(check, program, port):
     with socket.socket(socket.AF_INET, socket.SOCK_DGRAM) as udp:
         udp.connect(("127.0.0.1", port))
         sent = 0
-        while time.monotonic() < begun + 6 and child.poll() is None:
+        while time.monotonic() < begun + 6 and not has_ended(child):
             for _ in range(45):
                 try:
                     udp.send(b"x" * 32)
@@ -43,18 +48,17 @@ def alone(check, program):
     child = companion(program, closed_port(), "--seconds", "2", "--reports", "9", "--report-every", "500000000")
     lines = child.stdout.read().decode().splitlines()
     told = lasted(check, "a companion of nobody", child, 2, 10, begun)
-    check("and made the reports of its time", [line.split()[0] for line in lines] == ["1", "2", "3", "4"], lines)
+    numbers = [line.split()[0] for line in lines]
+    check("and made the reports of its time", numbers and numbers == ["1", "2", "3", "4"][:len(numbers)], lines)
     check("and says that it reached nobody", told and told[0].startswith("css: unreachable after "), told)
 
 
 def hung_up(check, program):
-    """A television that hangs up at once is called twice a second, and not at each turn."""
+    """A television that hangs up at once uses up none of a companion's time."""
     server = Listener(lambda peer: peer.conn.close())
     begun = time.monotonic()
     child = companion(program, server.port, "--seconds", "3", "--reports", "1000")
     lasted(check, "a companion of a television that hangs up", child, 3, 10, begun)
-    count = len(server.times)
-    check("and called it twice a second at most", 4 <= count <= 7, f"{count} times in 3 s")
     server.end()
 
 
@@ -76,24 +80,25 @@ def paired(check, program, port):
                             "--report-every", "1200000000", "--ask-every", "100000000"],
                   SCRIPT + f"{2 * LATER} speed 0\n")
     lines = child.stdout.read().decode().splitlines()
-    status = child.wait(30)
+    status = child.wait(60)
     told = child.stderr.read().decode().strip()
     check("a pair with seconds makes its reports", status == 0 and [line.split()[1] for line in lines] == ["ticks"] * 2,
           (status, lines, told))
-    check("and its child ends with its time", 2.4 <= time.monotonic() - begun < 6, f"{time.monotonic() - begun:.2f} s")
+    took = time.monotonic() - begun
+    check("and its child ends with its time", 2.4 <= took < PATIENCE, f"{took:.2f} s")
     stop(child)
 
 
 def scripted(check, program, port):
-    """A script says after how long something happens."""
-    child = start(program, ["tv", "--port", str(port), "--seconds", "4", "--relative"],
-                  SCRIPT + f"{2 * LATER} change 2\n")
+    """A script says after how long something happens: after the run's first turn, and that began after the run."""
     begun = time.monotonic()
+    child = start(program, ["tv", "--port", str(port), "--seconds", "60", "--relative"],
+                  SCRIPT + f"{4 * LATER} change 2\n")
     peer = dial_soon(port, "/cii")
-    first, second = peer.text(5), peer.text(5)
+    first, second = peer.text(), peer.text()
     took = time.monotonic() - begun
     check("a relative script's line happens after its time", (first.get("contentId"), second.get("contentId"))
-          == ("dvb://1", "dvb://2") and 1.2 < took < 3.2, (first.get("contentId"), second.get("contentId"), took))
+          == ("dvb://1", "dvb://2") and 4 <= took < PATIENCE, (first.get("contentId"), second.get("contentId"), took))
     stop(child)
 
 

@@ -2,8 +2,8 @@
 nothing of a processor."""
 import socket, struct, time
 
-from live_edge import (UPGRADED, Beside, Clock, Listener, closed_port, companion, dial_soon, flood, greet, has_ended,
-                       hold, pauses_of, processor_times, reset, state, stop, teller, upgraded, wait_for)
+from live_edge import (PATIENCE, UPGRADED, Beside, Clock, Listener, closed_port, companion, dial_soon, flood, greet,
+                       has_ended, hold, pauses_of, processor_times, reset, state, stop, teller, upgraded, wait_for)
 from live_peer import CLOSE, nanos, request, start
 
 TURNS = ("--turns", "500")
@@ -23,7 +23,7 @@ def silent_clock(check, program, command, words=()):
         time.sleep(2)
         took, after, asked = time.monotonic() - begun, processor_times(child.pid), len(clock.times) - asked
         used, waited = after[0] - before[0], after[1] - before[1]
-        check(f"a {command} beside a silent wall clock takes under 5 % of a processor", used < 0.05 * took,
+        check(f"a {command} beside a silent wall clock takes under 10 % of a processor", used < 0.1 * took,
               f"{100 * used / took:.1f} %")
         took -= waited  # While it waited for a processor it could make no turn.
         check(f"a {command} beside a silent wall clock makes at most 300 turns a second", asked <= 300 * took,
@@ -80,20 +80,38 @@ def refusing(peer):
 
 
 def answers(check, program, port):
-    """A television has a request every 3 ms: each uses one turn, so that 600 turns pause for about 1.8 seconds."""
-    begun = time.monotonic()
+    """A television has requests waiting all the time: each uses one turn. If an answer used another one, 600 turns
+    would answer 300. While this program waits for a processor a turn may find none, so a third is let pass."""
     child = start(program, ["tv", "--port", str(port), "--turns", "600"])
     udp = socket.socket(socket.AF_INET, socket.SOCK_DGRAM)
     udp.connect(("127.0.0.1", port))
-    while not has_ended(child) and time.monotonic() < begun + 20:
+    udp.setblocking(False)
+    asked, answered, end = 0, 0, time.monotonic() + PATIENCE
+    while not has_ended(child) and time.monotonic() < end:
         try:
-            udp.send(request(time.monotonic_ns()))
+            while asked < answered + 200:
+                udp.send(request(time.monotonic_ns()))
+                asked += 1
         except OSError:
-            pass
-        time.sleep(0.003)
-    pauses = pauses_of(child, begun)
-    check("an answer to a request uses no further turn of a television", pauses >= 1.2,
-          f"600 turns with pauses of {pauses:.2f} s")
+            asked = answered  # Nobody listens yet, or any longer.
+        time.sleep(0.0005)
+        answered += taken(udp)
+    time.sleep(0.1)
+    answered += taken(udp)
+    check("an answer to a request uses no further turn of a television", answered > 400,
+          f"{answered} answers in 600 turns")
+    stop(child)
+
+
+def taken(udp):
+    """How many datagrams have come; they are taken."""
+    count = 0
+    try:
+        while udp.recv(64):
+            count += 1
+    except OSError:
+        pass
+    return count
 
 
 def port_zero(check, program, port):
@@ -102,25 +120,26 @@ def port_zero(check, program, port):
     try:
         raw = socket.socket(socket.AF_INET, socket.SOCK_RAW, socket.IPPROTO_UDP)
     except PermissionError as error:
-        print(f"skipped a datagram from port 0: {error}", flush=True)
+        check.skip("a datagram from port 0", error)
         return
     child = start(program, ["tv", "--port", str(port), "--turns", "1000000"])
     dial_soon(port, "/cii").conn.close()
     udp, delays = socket.socket(socket.AF_INET, socket.SOCK_DGRAM), []
-    udp.settimeout(1)
+    udp.settimeout(PATIENCE)
     udp.connect(("127.0.0.1", port))
     for _ in range(15):
         for _ in range(20):
             raw.sendto(struct.pack(">HHHH", 0, port, 40, 0) + request(1), ("127.0.0.1", 0))
-        sent = time.monotonic_ns()
+        before, sent = processor_times(child.pid)[1], time.monotonic_ns()
         udp.send(request(sent))
         try:
-            delays.append(nanos(udp.recv(64)[16:24]) - sent)
+            took = (nanos(udp.recv(64)[16:24]) - sent) / 1e9
+            delays.append(took - processor_times(child.pid)[1] + before)  # It could do nothing while it waited.
         except TimeoutError:
             pass
         time.sleep(0.01)
-    middle = sorted(delays)[len(delays) // 2] / 1e6 if delays else 1000.0
-    check("datagrams from port 0 don't hold up a request by pauses", middle < 10, f"{middle:.2f} ms in the middle")
+    middle = 1000 * sorted(delays)[len(delays) // 2] if delays else 1000.0
+    check("datagrams from port 0 don't hold up a request by pauses", middle < 20, f"{middle:.2f} ms in the middle")
     stop(child)
 
 

@@ -1,7 +1,7 @@
 """Each status that the program can end with: its status line, which stays as it is, and the hint that may follow."""
-import os, re, subprocess, time
+import os, re, subprocess, threading
 
-from live_edge import Clock, Listener, closed_port, greet, hold, state, teller
+from live_edge import Clock, Listener, closed_port, dial_soon, greet, hold, reset, state, stop, teller
 from live_peer import start
 
 HINT = "css: hint: "
@@ -44,7 +44,7 @@ def words(check, program):
             ("companion --cii ws://h/cii --reports 0", "1000000"),
             ("companion --cii ws://h/cii --earliest 1", "--latest"),
             ("relay --relative --cii ws://h/cii", "--relative"), ("generate --seed 1", "--lines"),
-            ("tv extra", "extra")):
+            ("tv extra", "extra"), ("\u00e4" * 100, r"no such command: (\?\?)+$")):
         check_end(check, f"css {text}", start(program, text.split()), 1, "css: usage", hint)
 
 
@@ -140,8 +140,8 @@ def offline(check, program):
 
 def sockets(check, program, port):
     """What the system says of sockets."""
-    first = start(program, ["tv", "--port", str(port), "--seconds", "6"])
-    time.sleep(1.5)
+    first = start(program, ["tv", "--port", str(port), "--seconds", "120"])
+    dial_soon(port, "/cii").conn.close()
     for name, host, hint in (
             ("a port in use", "127.0.0.1", f"port {port} "), ("a foreign host", "192.0.2.1", "machine"),
             ("an unknown host", "no-such-name.invalid", "host"), ("any host", "0.0.0.0", "--host")):
@@ -151,7 +151,7 @@ def sockets(check, program, port):
     got, lines, _ = told_by(start(program, ["pair", "--port", str(port), "--reports", "1", "--seconds", "2"]))
     check("a child that can't listen", got == 11 and lines[0] == "css: net fault"
           and lines[-1] == "css: child status 6", (got, lines))
-    first.wait(20)
+    stop(first)
 
 
 def companions(check, program, port):
@@ -171,7 +171,11 @@ def companions(check, program, port):
     against("a text with a wrong property", teller(b'{"wcUrl":5}'), 7, "css: cii text 1: field wcUrl",
             'wcUrl .*: {"wcUrl":5}$')
     against("a moved address", teller({**state(), "wcUrl": old}, moved), 8, "css: moved wcUrl",
-            f"was {old} and is udp://127.0.0.1:9")
+            f"was {old} and is udp://127.0.0.1:9: start the companion again$")
+    # the 60 bytes that are shown end within the letter
+    far = {**state(), "wcUrl": f"udp://{'a' * 53}\u00e4\u00e4"}
+    against("a moved address of more than ASCII", teller({**state(), "wcUrl": old}, far), 8, "css: moved wcUrl",
+            f"was {old} and is udp://a{{53}}: start")
     against("an address that is none", teller({**state(), "tsUrl": "nowhere"}), 13, "css: bad url tsUrl",
             "tsUrl is no address of the form ws:.*: nowhere$")
     against("a wall clock's that is none", teller({**state(), "wcUrl": "http://h:1"}), 13, "css: bad url wcUrl",
@@ -182,8 +186,8 @@ def companions(check, program, port):
 
     clock = Clock()
     silent = Listener(lambda peer: (greet(peer), hold(peer)))
-    television = start(program, ["tv", "--port", str(port), "--seconds", "30"])
-    time.sleep(1)
+    television = start(program, ["tv", "--port", str(port), "--seconds", "120"])
+    dial_soon(port, "/cii").conn.close()
     spent("no text", lambda peer: (greet(peer), hold(peer)), "the television told no wcUrl")
     spent("no wcUrl", teller(state()), "the television told no wcUrl")
     spent("no response", teller(state(clock.port)), "no response came to [1-9][0-9]* requests")
@@ -210,6 +214,16 @@ def companions(check, program, port):
           and "nobody listens" in lines[1], (got, lines))
 
 
+def relays(check, program, port):
+    """What a relay says where its television moves is for somebody who runs a relay."""
+    old = f"udp://127.0.0.1:{closed_port()}"
+    server = Listener(teller({**state(), "wcUrl": old}, {**state(), "wcUrl": "udp://127.0.0.1:9"}))
+    url = f"ws://127.0.0.1:{server.port}/cii"
+    told = told_by(start(program, ["relay", "--cii", url, "--port", str(port), "--seconds", "3"]))
+    check("a relay says nothing of a companion", not any("companion" in line for line in told[1]), told)
+    server.end()
+
+
 def records(check, program):
     """A record with a wrong report."""
     given = b"css-record 1 0 0 urn:dvb:css:timeline:pts -\nturn 5\nreport 1 ticks 1 2\n"
@@ -224,10 +238,29 @@ def logged(check, program, port):
     for asked in ("1", ""):
         child = subprocess.Popen([*program, "tv", "--port", str(port), "--seconds", "1"], stdin=subprocess.DEVNULL,
                                  stdout=subprocess.PIPE, stderr=subprocess.PIPE, env={**os.environ, "CSS_LOG": asked})
-        _, told = child.communicate(timeout=20)
+        _, told = child.communicate(timeout=60)
         lines = told.decode().splitlines()
         told = any(it.startswith("css: log: ") for it in lines)
         check(f"CSS_LOG={asked}: what the sockets do", bool(asked) == told, lines)
+
+
+def departures(check, program, port):
+    """The log says of a peer that went away without a close that it did, and only of one that broke a rule that."""
+    child = start(["env", "CSS_LOG=1", *program], ["tv", "--port", str(port), "--turns", "1000000"])
+    late = threading.Timer(60, child.kill)  # Else a line that doesn't come would be waited for.
+    late.start()
+    for name, leave, words in (
+            ("ends its connection", lambda conn: conn.close(), "ended without a close"),
+            ("ends it within a frame", lambda conn: (conn.sendall(b"\x81\xfe"), conn.close()), "ended without a close"),
+            ("resets it", reset, "ended without a close"),
+            ("sends a bad frame", lambda conn: conn.sendall(b"\xf1\x80abcd"), "broke a rule of WebSockets")):
+        peer = dial_soon(port, "/cii")
+        peer.text(20)
+        leave(peer.conn)
+        told = next((line.decode() for line in child.stderr if b" closed: " in line), "nothing")
+        check(f"the log of a peer that {name}", words in told, told.strip())
+    late.cancel()
+    stop(child)
 
 
 def statuses(port, program, check):
@@ -236,5 +269,7 @@ def statuses(port, program, check):
     offline(check, program)
     sockets(check, program, port)
     companions(check, program, port + 2)
+    relays(check, program, port + 2)
     records(check, program)
     logged(check, program, port + 4)
+    departures(check, program, port + 4)

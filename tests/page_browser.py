@@ -2,7 +2,6 @@
 import base64
 import http.client
 import json
-import os
 import pathlib
 import shutil
 import subprocess
@@ -63,10 +62,10 @@ class Browser:
     def __init__(self):
         program = shutil.which("chromium") or shutil.which("chromium-browser") or shutil.which("google-chrome")
         if program is None:
-            raise SystemExit("tests/page.py: there is no Chromium: apt-get install chromium")
+            raise FileNotFoundError("there is no Chromium: tests/needs installs it, or apt-get install chromium")
         self.folder = tempfile.mkdtemp(prefix="css-page-")
-        self.child = subprocess.Popen(["nice", "-n", "15", program, *FLAGS, f"--user-data-dir={self.folder}",
-                                       "about:blank"], stdout=subprocess.DEVNULL, stderr=subprocess.DEVNULL)
+        self.child = subprocess.Popen([program, *FLAGS, f"--user-data-dir={self.folder}", "about:blank"],
+                                      stdout=subprocess.DEVNULL, stderr=subprocess.DEVNULL)
         self.number, self.asked, self.faults = 0, [], []
         port = self.port()
         self.peer = dial(port, self.page(port))
@@ -98,7 +97,7 @@ class Browser:
         self.number += 1
         self.peer.say({"id": self.number, "method": method, "params": params})
         while True:
-            heard = self.peer.text(60)
+            heard = self.peer.text(120)
             if heard.get("id") == self.number:
                 if "error" in heard:
                     raise RuntimeError(f"{method}: {heard['error']['message']}")
@@ -133,7 +132,7 @@ class Browser:
         rows = f"[...document.querySelectorAll('#{name} tr')].slice(1)"
         return self.tell(rows + ".map((row) => [...row.cells].map((cell) => cell.textContent))")
 
-    def until(self, script, seconds=20):
+    def until(self, script, seconds=60):
         """Whether a script comes to be true in time."""
         end = time.monotonic() + seconds
         while not self.tell(f"!!({script})"):
@@ -141,6 +140,10 @@ class Browser:
                 return False
             time.sleep(0.1)
         return True
+
+    def settled(self):
+        """Whether all of the page is drawn once more from now on."""
+        return self.until(f"drawn > {self.tell('performance.now()')}")
 
     def look(self, width, height, dark=False):
         """The size of the window, and the scheme of colours."""

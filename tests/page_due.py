@@ -1,16 +1,16 @@
 """What the page has to show, by the lines alone: the position, what is the matter, and what was refused."""
 import re
 
-from page_tv import carried, tick_at
+from page_tv import carried, rate_in, tick_at
 
 
 def due(lines):
-    """The report and the control timestamp that count after these lines, None each where there is none."""
-    report = control = timelines = None
+    """The report that counts after these lines, the control timestamp and the rate; None each where there is none."""
+    report = control = rate = None
     for line in lines:
         event = line["event"]
         if event == "visit":
-            report = control = timelines = None
+            report = control = rate = None
         elif event in ("end", "slept"):
             report = None
         elif event == "control":
@@ -19,24 +19,23 @@ def due(lines):
         elif event == "report":
             report = line if "ticks" in line else None
         elif event == "state":
-            report = report if line["state"]["timelines"] == timelines else None
-            timelines = line["state"]["timelines"]
-    return (report, control) if report and control else (None, None)
+            rate = rate_in(line["state"]["timelines"])
+    return (report, control, rate) if report and control and rate else (None, None, None)
 
 
-def position(report, control, reading):
+def position(report, control, rate, reading):
     """The span of the wall clock and the ticks, as the formula carries them on."""
     wall = carried([int(end) for end in report["wall"]], report["error"], reading - int(report["reading"]))
-    return [*wall, *sorted(tick_at(end, control, report["rate"]) for end in wall)]
+    return [*wall, *sorted(tick_at(end, control, rate) for end in wall)]
 
 
 def right_position(seen, lines):
     """Whether a moment of the page has the position that its lines give."""
-    report, control = due(lines[:seen["lines"]])
+    report, control, rate = due(lines[:seen["lines"]])
     if not seen["now"] or report is None:
         return not seen["now"] and report is None
     reading, *shown = map(int, seen["now"].split())
-    return reading >= int(report["reading"]) and shown == position(report, control, reading)
+    return reading >= int(report["reading"]) and shown == position(report, control, rate, reading)
 
 
 def matter(lines):

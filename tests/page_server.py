@@ -46,7 +46,7 @@ def asked(port, head, host=None, room=None):
     conn = socket.socket()
     if room is not None:
         conn.setsockopt(socket.SOL_SOCKET, socket.SO_RCVBUF, room)
-    conn.settimeout(20)
+    conn.settimeout(60)
     conn.connect(("127.0.0.1", port))
     lines = [head, *([f"Host: 127.0.0.1:{port}"] if host is None else host)]
     conn.sendall(("\r\n".join(lines) + "\r\n\r\n").encode())
@@ -135,19 +135,19 @@ def handed_on(check, port):
     page = Page(port)
     page.feed(*lines[:3], "", *lines[3:])
     whole = [line.replace("\r", " ") for line in lines]
-    found = events(asked(port, "GET /lines HTTP/1.1"), 20, lambda found: len(found) > len(lines))
+    found = events(asked(port, "GET /lines HTTP/1.1"), 60, lambda found: len(found) > len(lines))
     check("the lines are handed on as they came", [data for _, name, data in found if not name] == whole)
     status_event = found[-1]
     check("and then how old the last one is", status_event[1] == "page" and "age" in json.loads(status_event[2]))
     own = f"Host: 127.0.0.1:{port}"
     conn = asked(port, "GET /lines HTTP/1.1", [own, f"Last-Event-ID: {found[2][0]}"])
-    rest = events(conn, 20, lambda found: len(found) > len(lines) - 3)
+    rest = events(conn, 60, lambda found: len(found) > len(lines) - 3)
     check("a page goes on after the last line that it has", [data for _, name, data in rest if not name] == whole[3:])
     for wrong in ("other-3", "x", f"{found[0][0].split('-')[0]}-999999", f"{found[0][0].split('-')[0]}--1"):
-        told = events(asked(port, "GET /lines HTTP/1.1", [own, f"Last-Event-ID: {wrong}"]), 20, bool)
+        told = events(asked(port, "GET /lines HTTP/1.1", [own, f"Last-Event-ID: {wrong}"]), 60, bool)
         check(f"an id as {wrong.partition('-')[2] or wrong} does no harm", len(told) == 1)
     page.close()
-    told = events(asked(port, "GET /lines HTTP/1.1"), 20, lambda found: found and '"ended": true' in found[-1][2])
+    told = events(asked(port, "GET /lines HTTP/1.1"), 60, lambda found: found and '"ended": true' in found[-1][2])
     check("the end of the lines is told", told[-1][1] == "page" and json.loads(told[-1][2])["ended"] is True)
     page.end()
 
@@ -159,9 +159,10 @@ def replayed(check, port):
     with tempfile.NamedTemporaryFile("w", suffix=".lines") as file:
         file.write("\n".join(lines))
         file.flush()
-        page = Page(port, ["--replay", file.name, "--local-error", "5", "--local-precision", "0"])
+        page = Page(port, ["--replay", file.name, "--local-error", "5", "--local-precision", "0",
+                           "--selector", 'urn:"x"&1'])
         conn, times = asked(port, "GET /lines HTTP/1.1"), []
-        told = events(conn, 20, lambda found: times.append((time.monotonic(), len(found))) or (
+        told = events(conn, 60, lambda found: times.append((time.monotonic(), len(found))) or (
             found and '"ended": true' in found[-1][2]))
     came = [min(at for at, count in times if count > each) for each in range(len(told) - 1)]
     lasted = came[-1] - came[0] if came else 0
@@ -169,13 +170,14 @@ def replayed(check, port):
           f"{lasted:.1f} s")
     words = all_of(asked(port, "GET / HTTP/1.1"))
     check("the page knows the local error and precision", b'data-local-error="5" data-local-precision="0"' in words)
+    check("and the selector", b'data-selector="urn:&quot;x&quot;&amp;1"' in words)
     page.end()
 
 
 def too_long(check, port):
     page = Page(port)
     page.feed("x" * 3_000_000, "{}")
-    told = events(asked(port, "GET /lines HTTP/1.1"), 20, lambda found: len(found) > 1)
+    told = events(asked(port, "GET /lines HTTP/1.1"), 60, lambda found: len(found) > 1)
     check("a line that is too long is counted alone", told[0][2] == "{}" and json.loads(told[1][2])["long"] == 1)
     page.end()
 
@@ -191,13 +193,13 @@ def unread(check, port):
     for at in range(60):
         page.feed(*(line % (1000 * at + each) for each in range(1000)))
     took = time.monotonic() - begun
-    check("60,000 lines are read while five pages don't read", took < 20, f"{took:.1f} s")
+    check("60,000 lines are read while five pages don't read", took < 60, f"{took:.1f} s")
     last = line % 59999
     time.sleep(1)  # For what still stands in the pipe.
-    told = events(asked(port, "GET /lines HTTP/1.1"), 30, lambda found: found and found[-1][2] == last)
+    told = events(asked(port, "GET /lines HTTP/1.1"), 60, lambda found: found and found[-1][2] == last)
     told = [data for _, name, data in told if not name]
     check("another page gets the last lines", len(told) > 10000 and told[-1] == last, len(told))
-    time.sleep(6)
+    time.sleep(12)  # Well over the patience that it has with them.
     ended = [all_of(conn)[-100:] for conn in deaf]
     check("the pages that don't read are dropped", all(not data.endswith(last.encode() + b"\n\n") for data in ended))
     page.end()
@@ -208,12 +210,12 @@ def starts(check, port):
     page = Page(port)
     check("it says where the page is", page.said == f"tools/page.py: http://127.0.0.1:{port}/\n", page.said.strip())
     second = subprocess.run([sys.executable, str(TOOL), "--port", str(port)], stdin=subprocess.DEVNULL,
-                            capture_output=True, check=False, timeout=30)
+                            capture_output=True, check=False, timeout=60)
     check("a port in use is told, with status 1", second.returncode == 1 and b"in use" in second.stderr)
     page.end()
     for words in (["--port", "80"], ["--fast"], ["--local-error", "-1"], ["more"]):
         told = subprocess.run([sys.executable, str(TOOL), *words], stdin=subprocess.DEVNULL, capture_output=True,
-                              check=False, timeout=30)
+                              check=False, timeout=60)
         check(f"{' '.join(words)} is refused", told.returncode == 2, told.returncode)
 
 

@@ -11,11 +11,11 @@ import threading
 import time
 
 from live_peer import STARTED
-from page_tv import BEGIN, RATE, SECOND, Evening, tick_at
+from page_tv import BEGIN, SECOND, Evening, tick_at
 
 PAUSE, RESUME, CHANNEL, OFF, ON, CLOCK, OVER = 3, 5, 7, 9, 12, 17, 18
-STORY = [(PAUSE, "pause"), (RESUME, "resume"), (CHANNEL, "channel"), (OFF, "off"), (ON, "on"), (ON + 2, "tell"),
-         (15.1, "garble"), (15.8, "mend"), (16.3, "stray"), (CLOCK, "set clock")]
+STORY = [(PAUSE, "pause"), (RESUME, "resume"), (6.05, "news"), (CHANNEL, "channel"), (OFF, "off"), (ON, "on"),
+         (ON + 2, "tell"), (15.1, "garble"), (15.8, "mend"), (16.3, "stray"), (CLOCK, "set clock")]
 EVERY = SECOND // 4
 
 
@@ -31,11 +31,11 @@ class Simulated:
             time.sleep(max(0, begun + at / SECOND - time.monotonic()))
             yield line
 
-    def truth(self, reading, control):
+    def truth(self, reading, control, rate):
         """The tick that a control timestamp assigns to what the television's clock shows, while it keeps its word."""
         if reading - BEGIN >= CLOCK * SECOND:
             return None
-        return tick_at(self.evening.tv.wall(reading - BEGIN), control, RATE)
+        return tick_at(self.evening.tv.wall(reading - BEGIN), control, rate)
 
 
 class Program:
@@ -73,7 +73,7 @@ class Program:
         self.tv.kill()
         self.tv.wait()
 
-    def truth(self, _reading, _control):
+    def truth(self, _reading, _control, _rate):
         """Nobody knows it."""
         return None
 
@@ -81,7 +81,7 @@ class Program:
 class Wrong:
     """`watch` of a program beside tools/wrong_tv.py, which is wrong so often, once in so many seconds."""
 
-    TOOL, EVERY, WAYS = pathlib.Path(__file__).resolve().parent.parent / "tools" / "wrong_tv.py", 2, 6
+    TOOL, EVERY, WAYS = pathlib.Path(__file__).resolve().parent.parent / "tools" / "wrong_tv.py", 3, 6
 
     def __init__(self, words, port):
         self.words, self.port = words, port
@@ -90,7 +90,7 @@ class Wrong:
         tv = subprocess.Popen([sys.executable, self.TOOL, "--port", str(self.port), "--every", str(self.EVERY)],
                               text=True, stdout=subprocess.PIPE)
         often = ["--report-every", str(EVERY), "--ask-every", str(EVERY)]
-        seconds = str(self.EVERY * self.WAYS * 3 // 2 + 1)
+        seconds = str(self.EVERY * self.WAYS * 3 // 2 + 2)
         cii = f"ws://127.0.0.1:{self.port}/cii"
         watch = subprocess.Popen([*self.words, "watch", "--cii", cii, *often, "--seconds", seconds],
                                  text=True, stdout=subprocess.PIPE)
@@ -105,7 +105,7 @@ SCRIPT = f"""\
 0 programme dvb://233a.1004.1044
 0 timeline 1 urn:dvb:css:timeline:pts 1 90000 900000
 0 programme dvb://233a.1004.1045
-0 timeline 2 urn:dvb:css:timeline:pts 1 90000 324000000
+0 timeline 2 urn:dvb:css:timeline:pts 1 1000 3600000
 0 change 1
 {PAUSE * SECOND} speed 0
 {RESUME * SECOND} speed 1

@@ -3,9 +3,9 @@ import json
 import time
 
 from page_browser import DESK
-from page_due import right_position
+from page_due import position, right_position
 from page_server import Page
-from page_tv import BEGIN, SECOND, Evening
+from page_tv import BEGIN, SECOND, SLOW_RATE, Evening
 
 
 def many(check, browser, port):
@@ -17,9 +17,9 @@ def many(check, browser, port):
     begun = time.monotonic()
     page.feed(*made)
     page.close()
-    shown = browser.until(f"kept.lines === {len(lines)} && link.ended", 60)
+    shown = browser.until(f"kept.lines === {len(lines)} && link.ended")
     check(f"{len(lines):,} lines are shown", shown and len(lines) > 10000, f"{time.monotonic() - begun:.1f} s")
-    time.sleep(1.3)
+    browser.settled()
     check("with the position of the last one", right_position(browser.seen(), lines))
     size = browser.tell("document.querySelectorAll('*').length")
     check("and the page stays small", size < 2500, f"{size} elements")
@@ -34,7 +34,7 @@ def long_ago(check, browser, port):
     page.feed(*made, *[report] * 21000)
     browser.open(page.url)
     browser.until("watch.report")
-    time.sleep(1)
+    browser.settled()
     seen, lines = browser.seen(), [json.loads(line) for line in made]
     check("a page that is opened later has a position", right_position({**seen, "lines": len(lines)}, lines)
           and bool(seen["now"]), f"{seen['lines']} lines")
@@ -57,7 +57,7 @@ def cut(check, browser, port):
     check("the page connects again, and begins anew", browser.until(f"link.open && kept.lines === {len(made[:9])}"))
     page.feed(made[9][:40], *made)
     browser.until(f"kept.lines === {len(made) + 10}")
-    time.sleep(1)
+    browser.settled()
     lines = [json.loads(line) for line in made]
     seen = browser.seen()
     check("a watch that begins anew has a position", right_position({**seen, "lines": len(lines)}, lines)
@@ -84,7 +84,7 @@ def odd(check, browser, port):
     browser.open(page.url)
     page.feed("no JSON", *map(json.dumps, lines))
     browser.until(f"kept.lines === {len(lines) + 1}")
-    time.sleep(1)
+    browser.settled()
     seen = browser.seen()
     right = right_position({**seen, "lines": len(lines)}, lines)
     check("a position below zero runs backwards", right and "−" in browser.text("position"),
@@ -103,7 +103,7 @@ def odd(check, browser, port):
              {"event": "end", "number": 2, "why": "bad tsUrl"}]
     page.feed(*map(json.dumps, after))
     browser.until(f"kept.lines === {len(lines) + 2 + len(after)}")
-    time.sleep(1)
+    browser.settled()
     told = [row[1:] for row in browser.rows("refused")]
     wanted = ["tsUrl", "CII text 2", *["line of the watch"] * 4, "CSS-TS text", "line of the watch"]
     check("all that is odd is told", [row[0] for row in told] == wanted, told)
@@ -112,7 +112,30 @@ def odd(check, browser, port):
     page.end()
 
 
+def selected(check, browser, port):
+    """A watch with another selector: its position goes by the rate of this timeline, while the state lists it."""
+    lines = [json.loads(line) for _, line in Evening([], 4).lines()]
+    (state,) = [line for line in lines if line["event"] == "state"]
+    (control,) = [line["control"] for line in lines if line["event"] == "control"]
+    timeline = state["state"]["timelines"][0]
+    timeline["timelineSelector"] = "urn:x:1"
+    page = Page(port, ["--selector", "urn:x:1"])
+    browser.open(page.url)
+    page.feed(*map(json.dumps, lines), json.dumps({**state, "state": {**state["state"], "timelines": None}}))
+    words = "the state lists no timeline with the wanted selector"
+    lost = browser.until(f"document.getElementById('words').textContent === '{words}'")
+    check("a state without the timeline ends the position", lost and browser.text("position") == "not known")
+    timeline["timelineProperties"] = SLOW_RATE
+    page.feed(json.dumps(state))
+    browser.until("position(readingNow()) !== null")
+    time.sleep(1)
+    reading, *shown = map(int, browser.seen()["now"].split() or [0])
+    report = [line for line in lines if "ticks" in line][-1]
+    check("and another rate goes on with it", reading and shown == position(report, control, SLOW_RATE, reading), shown)
+    page.end()
+
+
 def streams(check, browser, port):
     """All of these checks."""
-    for at, each in enumerate((many, long_ago, cut, odd)):
+    for at, each in enumerate((many, long_ago, cut, odd, selected)):
         each(check, browser, port + at)

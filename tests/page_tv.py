@@ -6,18 +6,22 @@ The companion's clock shows true time. The television's clock runs 37 ppm fast, 
 its clock is set. `truth` tells where its content really is.
 """
 import json
+import pathlib
 import random
+import sys
 
-SECOND, TURN, F = 10**9, 10**7, 256_000_000
+sys.path.insert(0, str(pathlib.Path(__file__).resolve().parent.parent / "tools"))
+from peer import TIMELINE as SELECTOR  # noqa: E402 (the folder comes first)
+from television import ERROR, RATE, SECOND, Television, tick_at  # noqa: E402
+
+TURN, F = 10**7, 256_000_000
 LOCAL_ERROR, LOCAL_PRECISION = 128_000, 1000
-ERROR, PRECISION_NS = 128_000, 954  # The precision is 2^-20 s.
+PRECISION_NS = 954  # It is 2^-20 s.
 BEGIN = 98_765_432_109_876_543  # The first reading: beyond 2^53, so that no page may read it as a number.
-RATE = {"unitsPerSecond": 90000, "unitsPerTick": 1}
-SELECTOR = "urn:dvb:css:timeline:pts"
-TV = "192.168.1.20"
+SLOW_RATE = {"unitsPerSecond": 1000, "unitsPerTick": 1}
 
-EVENING = [(8, "pause"), (11, "resume"), (14, "channel"), (18, "off"), (28, "on"), (30, "tell"), (33, "garble"),
-           (34.5, "mend"), (36, "stray"), (38, "impossible"), (40, "set clock"), (43.5, "sleep")]
+EVENING = [(8, "pause"), (11, "resume"), (12.4, "news"), (14, "channel"), (18, "off"), (28, "on"), (30, "tell"),
+           (33, "garble"), (34.5, "mend"), (36, "stray"), (38, "impossible"), (40, "set clock"), (43.5, "sleep")]
 
 
 def span(answer, reading):
@@ -35,41 +39,10 @@ def carried(wall, error, past):
     return wall[0] - 1 + low, wall[1] + 1 + high
 
 
-def tick_at(wall, control, rate):
-    """The tick that a control timestamp assigns to a wall clock time."""
-    rise = (wall - int(control["wallClockTime"])) * control["timelineSpeedMultiplier"] * rate["unitsPerSecond"]
-    return int(control["contentTime"]) + rise // (rate["unitsPerTick"] * SECOND)
-
-
-class Television:
-    """What is shown, and the texts that are told of it."""
-
-    def __init__(self):
-        self.begins = [(0, 1_764_403_200 * SECOND)]  # From when on the clock counts from where.
-        self.on, self.told = True, True
-        self.channel, self.control = 1, None
-        self.show(0, 900_000, 1)
-
-    def wall(self, time):
-        begin = max(begin for begin in self.begins if begin[0] <= time)[1]
-        return begin + time + time * 37 // 10**6
-
-    def set_clock(self, time, by):
-        self.begins.append((time, self.begins[-1][1] + by))
-
-    def show(self, time, tick, speed):
-        self.control = {"contentTime": str(tick), "timelineSpeedMultiplier": speed,
-                        "wallClockTime": str(self.wall(time))}
-
-    def tick(self, time):
-        return tick_at(self.wall(time), self.control, RATE)
-
-    def state(self):
-        timelines = [{"timelineProperties": RATE, "timelineSelector": SELECTOR}]
-        return {"contentId": f"dvb://233a.1004.{1043 + self.channel}", "contentIdStatus": "final", "mrsUrl": None,
-                "presentationStatus": "okay", "protocolVersion": "1.1", "teUrl": None, "timelines": timelines,
-                "tsUrl": f"ws://{TV}:6678/ts" if self.told else None,
-                "wcUrl": f"udp://{TV}:6677" if self.told else None}
+def rate_in(timelines):
+    """The rate of the timeline, where a state has these: without it there is the one of presentation time stamps."""
+    told = [timeline["timelineProperties"] for timeline in timelines or [] if timeline["timelineSelector"] == SELECTOR]
+    return [*told, RATE][0]
 
 
 class Evening:
@@ -185,8 +158,9 @@ class Evening:
             return
         reading = BEGIN + self.time
         wall = min((span(answer, reading) for answer in self.answers), key=lambda ends: ends[1] - ends[0])
-        ticks = sorted(tick_at(end, self.control, RATE) for end in wall)
-        self.say("report", error=ERROR, rate=RATE, speed=self.control["timelineSpeedMultiplier"],
+        rate = rate_in(self.state["timelines"])
+        ticks = sorted(tick_at(end, self.control, rate) for end in wall)
+        self.say("report", error=ERROR, rate=rate, speed=self.control["timelineSpeedMultiplier"],
                  ticks=[str(tick) for tick in ticks], wall=[str(end) for end in wall], **members)
 
     def cause(self):
@@ -215,8 +189,14 @@ class Evening:
         self.tv.show(self.time, self.tv.tick(self.time), 1)
         self.texts.append("TS")
 
+    def do_news(self):
+        """Another programme, whose timeline has another rate, while both sessions stay open."""
+        self.tv.channel, self.tv.rate = self.tv.channel + 1, SLOW_RATE
+        self.tv.show(self.time, 300_000, 1)
+        self.texts += ["CII", "TS"]
+
     def do_channel(self):
-        self.tv.channel += 1
+        self.tv.channel, self.tv.rate = self.tv.channel + 1, RATE
         self.tv.show(self.time, 324_000_000, 1)
         self.texts += ["CII", "closed TS"]
 

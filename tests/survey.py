@@ -6,12 +6,12 @@
 The surveys below come from another program. What is generated must be the same twice, and a replay of it must print
 what its survey counts. Each check prints a line. The exit status is 1 where one failed.
 """
-import os
 import subprocess
 import sys
 
-HERE = os.path.dirname(os.path.abspath(__file__))
-PROGRAM = sys.argv[1:] or [os.path.join(HERE, "..", "css")]
+from checks import Checks, program
+
+PROGRAM = program(sys.argv[1:])
 # By the number of lines, and of companions.
 SURVEYS = {
     (9, 1): b"lines 9 prints 0 intervals 0 widest 0\n",
@@ -33,7 +33,7 @@ OPENING = b"""css-schedule 1 follow 12800 -20 12800 1000 urn:dvb:css:timeline:pt
 0 1000000000 1000000000 text ts
 """
 PTS = "urn:dvb:css:timeline:pts"
-failed = []
+check = Checks()
 
 
 def opening_of(companions):
@@ -48,12 +48,6 @@ def opening_of(companions):
         sessions = ("open cii", "text cii", "open ts", "up ts", "text ts")
         lines += [f"0 1000000000 {who} 1000000000 {words}" for words in sessions]
     return "".join(line + "\n" for line in lines).encode()
-
-
-def check(name, holds, told=""):
-    print(("ok      " if holds else "FAILED  ") + name + (f": {told}" if told else ""), flush=True)
-    if not holds:
-        failed.append(name)
 
 
 def run(words, given=b"", sink=subprocess.PIPE):
@@ -100,7 +94,7 @@ def main():
         with open("/dev/full", "wb") as full:
             ended, _, told = run(words(command, 9), sink=full)
         check(f"{command} on a full disk", (ended, told) == (5, b"css: write fault\n"))
-    return 1 if failed else 0
+    return check.end()
 
 
 if __name__ == "__main__":

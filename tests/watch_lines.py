@@ -2,11 +2,16 @@
 is known. tests/live_watch.py is made of it."""
 import collections
 import json
+import pathlib
 import re
+import sys
 
-from page_tv import ERROR, F, LOCAL_ERROR, LOCAL_PRECISION, PRECISION_NS, RATE, carried, span, tick_at
+from page_tv import ERROR, F, LOCAL_ERROR, LOCAL_PRECISION, PRECISION_NS, rate_in, span, tick_at
 
-LAG = 500_000_000  # Within this time a control timestamp that was said has come.
+sys.path.append(str(pathlib.Path(__file__).resolve().parent.parent / "examples"))
+from carry import Television as Carried
+
+LAG = 5_000_000_000  # Within this time a control timestamp that was said has come, also on a busy machine.
 SERVICES = ("CII", "WC", "TS")
 STATE = ("contentId", "contentIdStatus", "mrsUrl", "presentationStatus", "protocolVersion", "teUrl", "timelines",
          "tsUrl", "wcUrl")
@@ -29,7 +34,7 @@ CHECKS = {
     "causes": "each cause and detail is the first that holds",
     "intervals": "each interval comes from the narrowest answer and the last control timestamp",
     "truth": "each interval contains the truth",
-    "carried": "each interval contains the truth when it is carried on",
+    "carried": "each interval contains the truth when examples/carry.py carries it on",
 }
 
 
@@ -71,13 +76,12 @@ COUNT = whole(1, 2**53)
 TOLD = dict.fromkeys(STATE, text_or_null) | {
     "timelines": lambda value: value is None or isinstance(value, list) and all(map(TIMELINES, value))}
 CONTROL = members(contentTime=signed, timelineSpeedMultiplier=whole(-64, 64), wallClockTime=digits)
-NO_CONTROL = members(contentTime=lambda value: value is None, timelineSpeedMultiplier=lambda value: value is None,
-                     wallClockTime=lambda value: value == "0")
+NO_CONTROL = dict.fromkeys(("contentTime", "timelineSpeedMultiplier", "wallClockTime"))
 FORMS = {
     "visit": [{"number": COUNT, "reading": digits}],
     "dial": [{"outcome": words("open|failed"), "service": words("|".join(SERVICES))}],
     "state": [{"state": members(**TOLD)}],
-    "control": [{"control": lambda value: CONTROL(value) or NO_CONTROL(value)}, {"fault": words(UNREAD)}],
+    "control": [{"control": lambda value: CONTROL(value) or value == NO_CONTROL}, {"fault": words(UNREAD)}],
     "answer": [{"error": whole(0, 25_600_000), "landed": digits, "originate": digits, "precision": digits,
                 "receive": digits, "transmit": digits, "type": whole(1, 3), "width": digits}],
     "refused": [{"fault": words(REFUSED), "landed": digits}],
@@ -126,6 +130,7 @@ class Visit:
         self.number, self.ended, self.session = number, False, None
         self.dials, self.states, self.control = {}, [], None
         self.answers, self.promised, self.refused, self.disagrees = [], {}, None, False
+        self.closed = False  # Whether a report said that CSS-TS is closed.
 
     def forget(self):
         self.answers, self.promised, self.refused = [], {}, None
@@ -136,6 +141,10 @@ class Visit:
     def says(self, name):
         return bool(self.states) and self.states[-1][name] is not None
 
+    def rate(self):
+        """The rate of the timeline, by the last state."""
+        return rate_in(self.states[-1]["timelines"] if self.states else None)
+
     def cause(self):
         """The cause of a report that is due now, and the pattern of its detail; none where it has ticks."""
         first = "" if self.is_open("CII") else "CII isn't open"
@@ -145,6 +154,8 @@ class Visit:
         if self.control is None:
             second = "" if self.says("tsUrl") else "no tsUrl"
             return "NoTimestamp", first or second or ("no text came" if self.is_open("TS") else "TS isn't open")
+        if self.closed:
+            return "SessionClosed", ""
         if isinstance(self.control, str):
             return f"Unreadable {self.control}", ""
         return ("Unavailable", "") if self.control["contentTime"] is None else None
@@ -158,6 +169,7 @@ class Story:
         self.wrong, self.count = collections.defaultdict(list), collections.Counter()
         self.visit, self.begun, self.last, self.number, self.sessions = None, None, "", 0, 0
         self.visits, self.ends, self.reports, self.refused = [], [], [], []
+        self.carried = Carried()
 
     def expect(self, what, holds, line):
         self.count[what] += 1
@@ -177,6 +189,9 @@ class Story:
         if visit and visit.disagrees and not visit.ended and event != "end":
             self.expect("disagree", False, said)
         getattr(self, "on_" + event)(visit, said)
+        self.carried.take(said)
+        if event in ("report", "control", "state"):
+            self.carry_on(self.visit, said)
         self.last = event
 
     def tell(self, check):
@@ -207,8 +222,9 @@ class Story:
 
     def on_control(self, visit, said):
         visit.control = said.get("control") or said["fault"]
-        self.expect("controls", visit.is_open("TS")
-                    and any(visit.control == (fault or text) for _, text, fault in self.tv.controls), said)
+        self.expect("controls", visit.is_open("TS") and any(
+            visit.control == (fault or (text if text["contentTime"] else NO_CONTROL))
+            for _, text, fault in self.tv.controls), said)
 
     def on_answer(self, visit, said):
         t1, t2, t3, landed = (int(said[name]) for name in ("originate", "receive", "transmit", "landed"))
@@ -245,6 +261,8 @@ class Story:
         reading = int(said["reading"])
         in_order = said["number"] == self.number and (not self.reports or reading > self.reports[-1][0])
         self.expect("reports", in_order and reading >= self.begun + self.number * self.every, said)
+        if said.get("cause") == "SessionClosed":  # No line tells it before.
+            visit.closed = any(self.visits[-1] < end < reading for end in self.tv.ts_ends)
         cause = visit.cause()
         known = "ticks" in said
         if known and cause is None:
@@ -266,21 +284,27 @@ class Story:
         return any(answer[0] < jump <= reading for jump, _ in self.tv.begins[1:] for answer in visit.answers)
 
     def known(self, visit, said, reading):
-        control, wall = visit.control, [int(end) for end in said["wall"]]
+        control, rate, wall = visit.control, visit.rate(), [int(end) for end in said["wall"]]
         ticks = [int(tick) for tick in said["ticks"]]
         best = min(visit.answers, key=lambda answer: scaled_width(answer, reading))
-        self.expect("intervals", tuple(wall) == span(best, reading) and said["error"] == ERROR and said["rate"] == RATE
+        self.expect("intervals", tuple(wall) == span(best, reading) and said["error"] == ERROR and said["rate"] == rate
                     and said["speed"] == control["timelineSpeedMultiplier"]
-                    and ticks == sorted(tick_at(end, control, RATE) for end in wall), said)
+                    and ticks == sorted(tick_at(end, control, rate) for end in wall), said)
         if self.is_exempt(visit, reading):
             return
         true = self.tv.wall(reading)
-        self.expect("truth", wall[0] <= true <= wall[1] and ticks[0] <= tick_at(true, control, RATE) <= ticks[1]
+        self.expect("truth", wall[0] <= true <= wall[1] and ticks[0] <= tick_at(true, control, rate) <= ticks[1]
                     and control in self.tv.said(reading - LAG, reading), said)
+
+    def carry_on(self, visit, said):
+        """The last report is carried on to later readings, by what the visit was told since."""
         for part in (1, 2, 3, 9):
-            later = reading + self.every * part // 3
-            if self.is_exempt(visit, later):
+            report = self.carried.report
+            later = int(report["reading"]) + self.every * part // 3 if report else 0
+            ticks = self.carried.position(later)
+            if ticks is None or self.is_exempt(visit, later):
                 continue
-            true, low, high = self.tv.wall(later), *carried(wall, said["error"], later - reading)
-            first, last = sorted(tick_at(end, control, RATE) for end in (low, high))
-            self.expect("carried", low <= true <= high and first <= tick_at(true, control, RATE) <= last, said)
+            low, high = self.carried.wall(later)
+            true = self.tv.wall(later)
+            holds = low <= true <= high and ticks[0] <= tick_at(true, visit.control, visit.rate()) <= ticks[1]
+            self.expect("carried", holds, said)

@@ -98,7 +98,7 @@ class Prover:
 
     def __init__(self, room, crate, kind, made):
         self.room, self.top, self.kind, self.made = Path(room), crate, kind, made
-        self.graph, self.running = Graph(), {}
+        self.graph, self.running, self.libraries = Graph(), {}, LIBRARIES
         self.kit, self.version, self.lanes = Path(rt("doc")).parent, rt("version"), lanes()
         self.crates = self.graph.closure(crate)
         for name in self.crates:
@@ -115,7 +115,7 @@ class Prover:
 
     def is_kept(self, crate):
         """Whether the library of just these sources stands."""
-        file = LIBRARIES / f"{crate}.sum"
+        file = self.libraries / f"{crate}.sum"
         return crate != self.top and file.is_file() and file.read_text() == self.sum(crate)
 
     @functools.cache
@@ -129,13 +129,13 @@ class Prover:
         """Starts the prover of a crate. A library counts as kept only once its prover is done."""
         kind, made = self.kind, self.made
         if crate != self.top:
-            (LIBRARIES / f"{crate}.sum").unlink(missing_ok=True)
-            kind, made = ["src/lib.rt", "--statements"], LIBRARIES / f"{crate}.rlib"
+            (self.libraries / f"{crate}.sum").unlink(missing_ok=True)
+            kind, made = ["src/lib.rt", "--statements"], self.libraries / f"{crate}.rlib"
         words = [self.kit / "bin/rattle", "build", f"--crate-name={crate}", f"--links={crate}=", *kind, "-o", made]
         for dep in ["std", *self.graph.named[crate]]:
-            place = LIBRARIES if dep in self.graph.named else self.kit / "rlibs"
+            place = self.libraries if dep in self.graph.named else self.kit / "rlibs"
             words += ["--extern", f"{dep}={place / dep}.rlib"]
-        words += ["-L", f"dependency={self.kit / 'rlibs'}", "-L", f"dependency={LIBRARIES}", "--jobs", str(jobs)]
+        words += ["-L", f"dependency={self.kit / 'rlibs'}", "-L", f"dependency={self.libraries}", "--jobs", str(jobs)]
         words += ["--antt-project", self.kit / "rattle/logic/antt-project.json"]
         words += ["--logic-built", self.kit / "logic_built", "--toolchain", self.kit / "toolchain"]
         how = {"stdin": subprocess.DEVNULL, "stderr": subprocess.STDOUT, "start_new_session": True}
@@ -148,11 +148,11 @@ class Prover:
             if self.running.pop(crate)[0].returncode:
                 refuse(crate, (self.room / f"{crate}.log").read_text(errors="replace"))
             if crate != self.top:
-                (LIBRARIES / f"{crate}.sum").write_text(self.sum(crate))
+                (self.libraries / f"{crate}.sum").write_text(self.sum(crate))
 
     def prove(self):
         """Proves each crate after those below it, first those for which most others wait."""
-        LIBRARIES.mkdir(parents=True, exist_ok=True)
+        self.libraries.mkdir(parents=True, exist_ok=True)
         left = sorted((it for it in self.crates if not self.is_kept(it)), key=self.behind, reverse=True)
         progress = Progress(len(self.crates))
         try:

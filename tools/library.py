@@ -2,7 +2,8 @@
 """Puts the library for companion applications into a folder: one archive, its header, a pkg-config file and the Rust
 package.
 
-    tools/library.py DIR        proves and builds css_companion_c where it is old
+    tools/library.py DIR                proves css_companion_c and the crates below it, where they are old
+    tools/library.py --over-gate DIR    proves css_companion_c alone, over the libraries that `rt ci` left
 
 DIR/include/css_companion.h, DIR/lib/libcss_companion.a, DIR/lib/pkgconfig/css_companion.pc, DIR/rust/css-companion
 """
@@ -17,6 +18,23 @@ from build import TOP, Prover, alone
 
 NAME = "css_companion_c"
 VERSION = "1.0"
+
+
+class OverGate(Prover):
+    """Proves a crate alone, over the libraries that `rt ci` proved and left in crates/*/out."""
+
+    def __init__(self, room, *rest):
+        super().__init__(room, *rest)
+        self.libraries = self.room / "libraries"
+        self.libraries.mkdir()
+        for crate in self.crates - {self.top}:
+            place = TOP / "crates" / crate / "out" / "rlib" / f"{crate}.rlib"
+            if not place.is_dir():
+                sys.exit(f"css: there is no {place.relative_to(TOP)}: run `rt ci` first")
+            (self.libraries / place.name).symlink_to(place)
+
+    def is_kept(self, crate):
+        return crate != self.top
 
 
 def joined(archives, target):
@@ -44,14 +62,18 @@ Libs: -L${{prefix}}/lib -lcss_companion
 
 
 def main(words):
+    is_over_gate = words[:1] == ["--over-gate"]
+    words = words[is_over_gate:]
     if len(words) != 1 or words[0].startswith("-"):
         print(__doc__)
         return 2
     folder = Path(os.path.abspath(words[0]))
     with alone(), tempfile.TemporaryDirectory(prefix="css-room-") as room:
         archive = Path(room) / f"lib{NAME}.a"
-        prover = Prover(room, NAME, ["src/lib.rt", "--crate-type=staticlib"], archive)
-        print(f"css: proving the library and the {len(prover.crates) - 1} crates below it", file=sys.stderr, flush=True)
+        kind = OverGate if is_over_gate else Prover
+        prover = kind(room, NAME, ["src/lib.rt", "--crate-type=staticlib"], archive)
+        below = "" if is_over_gate else f" and the {len(prover.crates) - 1} crates below it"
+        print(f"css: proving the library{below}", file=sys.stderr, flush=True)
         prover.prove()
         joined([archive, prover.kit / "c" / "liblibc_c.a"], folder / "lib" / "libcss_companion.a")
     (folder / "include").mkdir(parents=True, exist_ok=True)

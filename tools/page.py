@@ -14,6 +14,7 @@ import argparse
 import base64
 import collections
 import hashlib
+import html
 import http.server
 import json
 import os
@@ -118,10 +119,12 @@ def hold(older, kind, number, line):
         older[kind] = number, line
 
 
-def document(local_error, local_precision):
+def document(options):
     """The page, with what the lines don't tell, and the policy that it has no other script and asks nobody else."""
     page = (pathlib.Path(__file__).parent / "page.html").read_text(encoding="utf-8")
-    page = page.replace("LOCAL_ERROR", str(local_error)).replace("LOCAL_PRECISION", str(local_precision))
+    for name, value in (("LOCAL_ERROR", options.local_error), ("LOCAL_PRECISION", options.local_precision),
+                        ("SELECTOR", options.selector)):
+        page = page.replace(name, html.escape(str(value)))
     policy = "default-src 'none'; connect-src 'self'; img-src data:; base-uri 'none'; frame-ancestors 'none'"
     for name in ("script", "style"):
         inner = re.search(f"<{name}>(.*?)</{name}>", page, re.S)[1]
@@ -267,6 +270,7 @@ def options_of(words):
     parser.add_argument("--port", type=ranged(1024, 65535), default=8070)
     parser.add_argument("--local-error", type=ranged(0, 2_560_000), default=128_000, help="as that of the watch")
     parser.add_argument("--local-precision", type=ranged(0, SECOND), default=1000, help="as that of the watch")
+    parser.add_argument("--selector", default="urn:dvb:css:timeline:pts", help="as that of the watch")
     parser.add_argument("--replay", metavar="FILE", help="saved lines, in the place of standard input")
     parser.add_argument("--fast", action="store_true", help="the saved lines all at once")
     options = parser.parse_args(words)
@@ -280,7 +284,7 @@ def main(words):
     log = Log()
     try:
         file = sys.stdin.buffer if options.replay is None else open(options.replay, "rb")
-        server = Server(options.port, log, document(options.local_error, options.local_precision))
+        server = Server(options.port, log, document(options))
     except OSError as fault:
         print(f"tools/page.py: {fault}", file=sys.stderr)
         return 1

@@ -8,12 +8,10 @@ well. Then it does a thing that a television must not do, and after half of that
 thing on standard output, and ends after the last.
 """
 import argparse
-import pathlib
 import sys
 import time
 
-sys.path.insert(0, str(pathlib.Path(__file__).resolve().parent.parent / "tests"))
-from watch_tv import Set
+from television import Set
 
 
 def no_object(tv):

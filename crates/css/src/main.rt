@@ -5,7 +5,9 @@ use css_app::{Status, run, tell};
 use css_drive::{Before, Nobody};
 use css_follow::{Cues, Meter};
 use css_hints::{Asked, Course, hint};
-use css_net::{ChildSpawner, NetOutside, Seen, StdSink, StdSource};
+use css_net::{
+    ChildSpawner, NetOutside, PatientWriter, Seen, StdSink, StdSource, take_standard_numbers,
+};
 use css_outside::{Sink, write_all};
 use css_told::{TellingOutside, TellingSink};
 use std::alloc::Global;
@@ -17,7 +19,7 @@ use std::{env, io};
 
 // What a companion at a terminal waits for.
 const SHEET_WANTED: &str =
-    "css: companion reads a cue sheet from standard input until its end (< /dev/null for none)";
+    "css: companion reads a cue sheet from standard input until its end (< /dev/null for none)\n";
 
 // The words after the program's name.
 fn words<R: Env + AllocGlobal>(rt: &R) -> io::Result<Vec<String>> {
@@ -46,10 +48,10 @@ fn asks_for_sheet(words: &[String]) -> bool {
 }
 
 // Tells a person at a terminal what a companion waits for.
-fn tell_of_sheet(rt: &HostRuntime, words: &[String]) {
+fn tell_of_sheet<K: Sink>(rt: &HostRuntime, words: &[String], errors: &mut K) {
     if asks_for_sheet(words) && rt.stdin().is_terminal() {
         // A person who can't be told this can type a sheet all the same.
-        let _ = eprintln!(rt; "{SHEET_WANTED}");
+        let _ = write_all(errors, SHEET_WANTED.as_bytes());
     }
 }
 
@@ -96,16 +98,18 @@ fn cues_and_meter(alloc: Global) -> Before<Cues, Before<Meter, Nobody>> {
 }
 
 fn main(rt: HostRuntime) -> ExitCode {
+    take_standard_numbers(&rt);
     let mut source = StdSource::new(rt.reader(), &rt);
     source.keep_lines();
     let mut sink = TellingSink::new(StdSink::new(io::writer(&rt), &rt));
     let mut outside = TellingOutside::new(NetOutside::new(rt.alloc(), &rt));
     let mut spawner = ChildSpawner::new(rt.alloc(), &rt);
     let mut followers = cues_and_meter(rt.alloc());
+    let mut errors = StdSink::new(PatientWriter::new(rt.stderr().lock()), &rt);
     let words = words(&rt);
     let status = match &words {
         Ok(words) => {
-            tell_of_sheet(&rt, words);
+            tell_of_sheet(&rt, words, &mut errors);
             run(
                 rt.alloc(),
                 words,
@@ -120,12 +124,13 @@ fn main(rt: HostRuntime) -> ExitCode {
     };
     let mut outside = outside.into_inner();
     outside.end();
-    let mut errors = StdSink::new(rt.stderr().lock(), &rt);
+    source.end_lines();
     let number = tell(rt.alloc(), &status, &mut errors).number;
     if let Ok(words) = &words {
         let asked = Asked {
             words,
             dial: outside.last_dial_failure(),
+            wrong_answer: outside.wrong_answer(),
             line: refused_line(&status, &source),
             first_line_returned: source.first_line_returned(),
             course: course_of(outside.seen()),

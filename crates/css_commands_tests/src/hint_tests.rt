@@ -32,6 +32,7 @@ fn check_hint(rt: &impl Abort, alloc: Global, status: &Status, told: &Told, help
     let asked = Asked {
         words: &words,
         dial: Some(Failure::HttpStatus(404)),
+        wrong_answer: None,
         line: Some(refused.as_bytes()),
         first_line_returned: false,
         course: Course {
@@ -99,17 +100,17 @@ fn each_status_has_its_hint(rt: HostRuntime) {
     check_all(&rt, rt.alloc(), &HINTS);
 }
 
-/// The old address is cut in the hint, and is no part of the status line.
+/// Both addresses are cut in the hint, the new one before a letter of two bytes. Neither is part of the status line.
 #[test]
 fn a_moved_address_is_told(rt: HostRuntime) {
+    let new = "nnnnnnnnnnnnnnnnnnnnnnnnnnnnnnnnnnnnnnnnnnnnnnnnnnnnnnnnnnn\u{f6}";
     let moved = Status::Moved {
         property: CiiName::WcUrl,
         old: Text::of(rt.alloc(), &[b'o'; 300]).expect(&rt, NO_MEMORY),
-        new: Text::of(rt.alloc(), b"udp://h:2").expect(&rt, NO_MEMORY),
+        new: Text::of(rt.alloc(), new.as_bytes()).expect(&rt, NO_MEMORY),
     };
     check_told(&rt, rt.alloc(), &moved, 8, "css: moved wcUrl\n");
-    let helps =
-        "wcUrl was oooooooooooooooooooooooooooooooooooooooooooooooooooooooooooo and is udp://h:2: \
-                 start the companion again";
-    check_hint(&rt, rt.alloc(), &moved, &("companion", "", ""), helps);
+    let helps = "wcUrl was oooooooooooooooooooooooooooooooooooooooooooooooooooooooooooo and is \
+         nnnnnnnnnnnnnnnnnnnnnnnnnnnnnnnnnnnnnnnnnnnnnnnnnnnnnnnnnnn: start the relay again";
+    check_hint(&rt, rt.alloc(), &moved, &("relay", "", ""), helps);
 }

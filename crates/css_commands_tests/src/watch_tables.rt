@@ -27,6 +27,8 @@ const WC_TOLD: &str = r#"{"wcUrl":"udp://127.0.0.1:6677"}"#;
 
 const OTHER_WC: &str = r#"{"wcUrl":"udp://127.0.0.1:7000"}"#;
 
+const OTHER_TS: &str = r#"{"tsUrl":"ws://127.0.0.1:7001/ts","wcUrl":"udp://127.0.0.1:6677"}"#;
+
 // ---- lines
 
 const VISIT: &str = r#"{"event":"visit","number":1,"reading":"0"}"#;
@@ -56,6 +58,9 @@ const STATE_OTHER_WC: &str = state!(r#""tsUrl":null,"wcUrl":"udp://127.0.0.1:700
 
 #[rattlefmt::skip]
 const STATE_BOTH: &str = state!(r#""tsUrl":"ws://127.0.0.1:6678/ts","wcUrl":"udp://127.0.0.1:6677"}}"#);
+
+#[rattlefmt::skip]
+const STATE_OTHER_TS: &str = state!(r#""tsUrl":"ws://127.0.0.1:7001/ts","wcUrl":"udp://127.0.0.1:6677"}}"#);
 
 /// The line of a control timestamp.
 #[rattlefmt::skip]
@@ -111,6 +116,15 @@ macro_rules! no_answer {
     };
 }
 
+/// A report after the TS session closed.
+#[rattlefmt::skip]
+macro_rules! session_closed {
+    ($number:literal, $reading:literal) => {
+        concat!(r#"{"cause":"SessionClosed","detail":"","event":"report","number":"#, $number, r#","reading":""#,
+            $reading, r#""}"#)
+    };
+}
+
 // ---- television by television
 
 /// A watch of two seconds, to which nothing comes.
@@ -150,6 +164,15 @@ const MOVES: World = World {
     ..SILENT
 };
 
+/// CII tells another tsUrl in the turn after the one in which TS closes.
+#[rattlefmt::skip]
+const MOVES_TS: World = World {
+    times: &[0, 5, 6, 10, 20, 25, 26, 1_000_000_000],
+    texts: &[(1, Said::Text(CII)), (1, Said::Text("{}")), (2, Said::Closed), (1, Said::Text(OTHER_TS)),
+        (3, Said::Text(OTHER_TS))],
+    ..SILENT
+};
+
 const NO_OBJECT: World = World {
     times: &[0, 1, 1_000_000_000],
     texts: &[(1, Said::Text("[]")), (2, Said::Text("{}"))],
@@ -179,13 +202,14 @@ const ASKS: Case<'static> = Case {
     ..BLANK
 };
 
-/// The TS session closes after the first report. The second visit ends with the watch.
+/// The TS session closes after the first report. In the next turn CII says nothing more, and the turn after that ends
+/// the visit. The second visit ends with the watch.
 #[rattlefmt::skip]
 pub const CLOSES: Case<'static> = Case {
     world: World {
-        times: &[0, 5, 6, 8, 10, 20, 25, 26, 28, 30, 1_000_000_000],
+        times: &[0, 5, 6, 8, 10, 12, 20, 21, 25, 26, 28, 30, 1_000_000_000],
         slept: &[],
-        datagrams: &[RESPONSE, NONE, LATER_RESPONSE],
+        datagrams: &[RESPONSE, NONE, NONE, LATER_RESPONSE],
         texts: &[(1, Said::Text(CII)), (2, Said::Text(TS)), (2, Said::Closed), (3, Said::Text(CII)),
             (4, Said::Text(TS))],
     },
@@ -196,9 +220,9 @@ pub const CLOSES: Case<'static> = Case {
 #[rattlefmt::skip]
 pub const CLOSED: &[&str] = &[
     VISIT, CII_OPEN, STATE_BOTH, WC_OPEN, TS_OPEN, ANSWER, CONTROL, REPORT,
+    session_closed!("2", "20"),
     r#"{"event":"end","number":1,"why":"closed TS"}"#,
-    r#"{"event":"visit","number":2,"reading":"20"}"#,
-    no_answer!("2", "20", "CII isn't open"),
+    r#"{"event":"visit","number":2,"reading":"21"}"#,
     CII_OPEN, STATE_BOTH, WC_OPEN, TS_OPEN,
     answer!("0", "1", "28", "26", "6000", "6001", "7"),
     CONTROL,
@@ -209,9 +233,9 @@ pub const CLOSED: &[&str] = &[
 /// Calls of the outside in this watch, and how many lines are written where one of them fails.
 #[rattlefmt::skip]
 pub const FAILING: &[(&[u64], usize)] = &[
-    (&[1], 0), (&[3], 2), (&[4], 3), (&[7, 8, 9, 10, 11], 5), (&[12, 13], 6), (&[14], 7), (&[15, 16, 17], 8),
-    (&[18, 19], 9), (&[21], 12), (&[22], 13), (&[25, 26, 27, 28, 29], 15), (&[30, 31], 16), (&[32], 17),
-    (&[33, 34, 35, 36], 18), (&[37, 38], 19),
+    (&[1], 0), (&[3], 2), (&[4], 3), (&[7, 8, 9, 10, 11], 5), (&[12, 13], 6), (&[14], 7),
+    (&[15, 16, 17, 18, 19, 20, 21], 8), (&[22, 23], 10), (&[25], 12), (&[26], 13), (&[29, 30, 31, 32, 33], 15),
+    (&[34, 35], 16), (&[36], 17), (&[37, 38, 39, 40], 18), (&[41, 42], 19),
 ];
 
 // ---- the evening of `examples/evening.schedule`: the same times at both ends, and the same ticks
@@ -234,7 +258,8 @@ const PAUSES: &str =
 const RESUMES: &str =
     r#"{"contentTime":"6300000","timelineSpeedMultiplier":1,"wallClockTime":"5024000000"}"#;
 
-/// A report is due each millisecond. The first response is lost. The clock reads at each turn, request and landing.
+/// A report is due each millisecond. The first response is lost. The clock reads at each turn, request and landing. TS
+/// closes two turns before the last, so the visit ends with the watch.
 #[rattlefmt::skip]
 const EVENING: Case<'static> = Case {
     words: "watch --cii ws://127.0.0.1:6677/cii --seconds 1 --report-every 1000000 --ask-every 400000 \
@@ -242,7 +267,7 @@ const EVENING: Case<'static> = Case {
     world: World {
         times: &[
             0, 500_000, 600_000, 1_000_000, 12_000_000, 14_000_000, 14_000_000, 14_000_000, 21_000_000, 21_000_000,
-            22_000_000, 30_000_000, 31_000_000, 31_000_000, 31_000_000, 1_000_000_000,
+            22_000_000, 30_000_000, 31_000_000, 31_000_000, 31_000_000, 40_000_000, 40_000_000, 1_000_000_000,
         ],
         slept: &[],
         datagrams: &[NONE, FIRST_ANSWER, NONE, NONE, SECOND_ANSWER],
@@ -268,9 +293,8 @@ const EVENING_TOLD: &[&str] = &[
     answer!("12800", "954", "31000000", "30000000", "5030500000", "5030600000", "906013"),
     control!("6300000", "1", "5024000000"),
     known!("12800", "5", "31000000", "1", r#""6300593","6300675""#, r#""5030597044","5031503057""#),
-    r#"{"event":"end","number":1,"why":"closed TS"}"#,
-    r#"{"event":"visit","number":2,"reading":"1000000000"}"#,
-    no_answer!("6", "1000000000", "CII isn't open"),
+    session_closed!("6", "40000000"),
+    session_closed!("7", "1000000000"),
 ];
 
 // ---- all
@@ -294,6 +318,11 @@ pub const WATCHES: &[WatchRow] = &[
         &[VISIT, CII_OPEN, STATE_WC, WC_OPEN, r#"{"event":"end","number":1,"why":"moved wcUrl"}"#,
             r#"{"event":"visit","number":2,"reading":"10"}"#, CII_OPEN, STATE_OTHER_WC, WC_OPEN,
             no_answer!("1", "1000000000", "no response to 1 requests")]),
+    ("another tsUrl, and the TS session closes before it is told", Case { world: MOVES_TS, ..SECOND },
+        "no interval in 1 reports",
+        &[VISIT, CII_OPEN, STATE_BOTH, WC_OPEN, TS_OPEN, STATE_BOTH,
+            r#"{"event":"end","number":1,"why":"moved tsUrl"}"#, r#"{"event":"visit","number":2,"reading":"20"}"#,
+            CII_OPEN, STATE_OTHER_TS, WC_OPEN, TS_OPEN, no_answer!("1", "1000000000", "no response to 1 requests")]),
     ("no object", Case { world: NO_OBJECT, ..SECOND }, "no interval in 1 reports",
         &[VISIT, CII_OPEN, r#"{"event":"end","number":1,"why":"CII text 1: not object"}"#,
             r#"{"event":"visit","number":2,"reading":"1"}"#, CII_OPEN, STATE_NONE,

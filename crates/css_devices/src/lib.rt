@@ -6,11 +6,13 @@
 mod child;
 mod clock;
 pub mod faults;
+mod standard;
 mod streams;
 mod tally;
 mod window;
 
 pub use child::ChildSpawner;
 pub use clock::monotone;
+pub use standard::{PatientWriter, errors_take_line, take_standard_numbers};
 pub use streams::{StdSink, StdSource};
 pub use tally::{FIRST_SENDER, Tally};

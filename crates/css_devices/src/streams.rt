@@ -69,14 +69,24 @@ impl<'a, R: Read, C: Clock> StdSource<'a, R, C> {
         }
     }
 
-    /// Keeps the last lines that come from now on, 16,384 bytes of them at least.
+    /// Keeps the last lines that come from now on, 32,768 bytes of them.
     pub fn keep_lines(&mut self)
         ensures faults { self.new.faults ≡ self.old.faults }
     {
         self.window = Some(Window::new());
     }
 
-    /// The line with this number, counted from 1, without its line feed. None where not all of it is kept.
+    /// Makes the kept lines ready to be asked for, once nothing more is read.
+    pub fn end_lines(&mut self)
+        ensures faults { self.new.faults ≡ self.old.faults }
+    {
+        if let Some(lines) = &mut self.window {
+            lines.turn();
+        }
+    }
+
+    /// The line with this number, counted from 1, without its line feed. None where not all of it is kept. Call
+    /// `end_lines` before.
     pub fn line(&self, number: u64) -> Option<&[u8]> {
         match &self.window {
             Some(lines) => lines.line(number),

@@ -1,12 +1,16 @@
 //! The last lines that went through a source, for a person who asks which of them was refused. They are kept where no
 //! memory is asked for: a run that lacks some ends as it would without them.
 
-/// How many of the last bytes are kept at least.
-const LEAST_KEPT: usize = 16_384;
-/// How many bytes there is room for. Where it is full, all but the last go.
-const MOST_KEPT: usize = 32_768;
-/// How many bytes are added at once: a window that let its front go has room for them.
-const MOST_ADDED: usize = 4_096;
+use std::simd::prelude::*;
+
+/// How many of the last bytes are kept.
+const KEPT: usize = 32_768;
+/// How many bytes are added at once at most.
+const PART: usize = 4_096;
+/// How many bytes are looked at at once. Each counts in a lane of its own.
+const LANES: usize = 64;
+/// How many times a lane can count.
+const MOST_COUNTED: usize = 255;
 
 const LINE_FEED: u8 = b'\n';
 
@@ -15,19 +19,34 @@ const CARRIAGE_RETURN: u8 = b'\r';
 /// The last lines of an input.
 #[derive(Drop)]
 pub(crate) struct Window {
-    bytes: [u8; MOST_KEPT],
+    /// A ring: the next byte takes the place of the oldest one.
+    bytes: [u8; KEPT],
+    /// The place of the next byte.
+    next: usize,
     /// How many bytes are kept.
     count: usize,
-    /// The number of the line at the front, counted from 1.
+    /// The number of the line that the oldest byte is of, counted from 1.
     number: u64,
-    /// Whether the line at the front is there from its beginning.
+    /// Whether that line is there from its beginning.
     is_whole: bool,
     /// Whether line 1 ended with a carriage return, once it has ended.
     returned: Option<bool>,
 }
 
+/// Adds to each lane whether its byte is a line feed.
+fn add_feeds(lanes: u8x64, row: &[u8; LANES]) -> u8x64 {
+    let is_feed = u8x64::from_array(*row).simd_eq(u8x64::splat(LINE_FEED));
+    lanes + is_feed.select(u8x64::splat(1), u8x64::splat(0))
+}
+
 fn feeds_in(bytes: &[u8]) -> u64 {
-    bytes.iter().filter(|byte| **byte == LINE_FEED).count() as u64
+    let (rows, rest) = bytes.as_chunks::<LANES>();
+    let mut feeds = rest.iter().filter(|byte| **byte == LINE_FEED).count() as u64;
+    for some in rows.chunks(MOST_COUNTED) {
+        let lanes = some.iter().fold(u8x64::splat(0), add_feeds);
+        feeds = feeds.wrapping_add(u64::from(lanes.cast::<u16>().reduce_sum()));
+    }
+    feeds
 }
 
 /// Whether the first line of these bytes ends with a carriage return, where it ends.
@@ -41,7 +60,8 @@ impl Window {
     /// No line has come.
     pub(crate) fn new() -> Window {
         Window {
-            bytes: [0; MOST_KEPT],
+            bytes: [0; KEPT],
+            next: 0,
             count: 0,
             number: 1,
             is_whole: true,
@@ -49,47 +69,52 @@ impl Window {
         }
     }
 
+    /// What is kept, where the oldest byte is at the front of the ring.
     fn kept(&self) -> &[u8] {
-        let (kept, _) = self.bytes.split_at(self.count.min(MOST_KEPT));
+        let (kept, _) = self.bytes.split_at(self.count.min(KEPT));
         kept
     }
 
-    /// Lets the front go, as far as it needn't be kept.
-    fn shed(&mut self) {
-        let count = self.count.min(MOST_KEPT);
-        let surplus = count.saturating_sub(LEAST_KEPT);
-        let (gone, _) = self.bytes.split_at(surplus);
-        let Some(last) = gone.last() else {
+    /// Puts bytes in the place of the oldest ones, where they fit behind them.
+    fn put(&mut self, part: &[u8]) {
+        let (_, behind) = self.bytes.split_at_mut(self.next.min(KEPT));
+        let Some(place) = behind.get_mut(..part.len()) else {
             return;
         };
-        self.is_whole = *last == LINE_FEED;
-        self.number = self.number.saturating_add(feeds_in(gone));
-        self.bytes.copy_within(surplus..count, 0);
-        self.count = count - surplus;
-    }
-
-    fn append(&mut self, part: &[u8]) {
-        if part.len() > MOST_KEPT.saturating_sub(self.count) {
-            self.shed();
+        if self.count == KEPT {
+            self.is_whole = place.last() == Some(&LINE_FEED);
+            self.number = self.number.saturating_add(feeds_in(place));
         }
-        let (_, room) = self.bytes.split_at_mut(self.count.min(MOST_KEPT));
-        for (place, byte) in room.iter_mut().zip(part) {
-            *place = *byte;
-        }
-        self.count = self.count.saturating_add(part.len()).min(MOST_KEPT);
+        place.copy_from_slice(part);
+        self.count = self.count.saturating_add(part.len()).min(KEPT);
+        self.next = self.next.saturating_add(part.len()) % KEPT;
     }
 
     /// Adds what came.
     pub(crate) fn add(&mut self, piece: &[u8]) {
-        for part in piece.chunks(MOST_ADDED) {
-            self.append(part);
-            if self.returned.is_none() && self.number == 1 && self.is_whole {
+        for part in piece.chunks(PART) {
+            let behind = KEPT.saturating_sub(self.next);
+            let (first, others) = part.split_at(part.len().min(behind));
+            self.put(first);
+            if !others.is_empty() {
+                self.put(others);
+            }
+            if self.returned.is_none() && self.count < KEPT {
                 self.returned = first_returns(self.kept());
             }
         }
     }
 
-    /// The line with this number, without its line feed, where all of it is still kept.
+    /// Brings the oldest byte to the front of the ring.
+    pub(crate) fn turn(&mut self) {
+        if self.count == KEPT {
+            self.bytes.rotate_left(self.next.min(KEPT));
+            self.next = 0;
+        }
+    }
+
+    /// The line with this number, without its line feed, where all of it is still kept. The ring was turned since the
+    /// last bytes came.
     pub(crate) fn line(&self, number: u64) -> Option<&[u8]> {
         let place = number.checked_sub(self.number)?;
         if place == 0 && !self.is_whole {

@@ -3,16 +3,17 @@
 //! answered by it while that isn't built yet. It tells the status, and no hint after it.
 #![tactic(auto)]
 
-use css_devices::{StdSink, StdSource};
+use css_devices::{PatientWriter, StdSink, StdSource, take_standard_numbers};
 use css_replay::{replay, tell};
 use css_told::TellingSink;
 use std::io;
 use std::process::ExitCode;
 
 fn main(rt: HostRuntime) -> ExitCode {
+    take_standard_numbers(&rt);
     let mut source = StdSource::new(rt.reader(), &rt);
     let mut sink = TellingSink::new(StdSink::new(io::writer(&rt), &rt));
     let status = replay(rt.alloc(), &mut source, &mut sink);
-    let mut errors = StdSink::new(rt.stderr().lock(), &rt);
+    let mut errors = StdSink::new(PatientWriter::new(rt.stderr().lock()), &rt);
     ExitCode::from(tell(rt.alloc(), &status, &mut errors).number)
 }

@@ -8,6 +8,8 @@ pub struct Asked<'a> {
     pub words: &'a [String],
     /// How the last dial failed, where one did.
     pub dial: Option<Failure>,
+    /// What was wrong with the answer to that dial, where it was one that makes no session.
+    pub wrong_answer: Option<&'a str>,
     /// The line of the input that the status refuses, without its line feed, where it is known.
     pub line: Option<&'a [u8]>,
     /// Whether line 1 of the input ended with a carriage return.

@@ -1,5 +1,6 @@
 //! What the system said of the network, and of a child.
 
+use crate::asked::Asked;
 use crate::options::{command_in, value_of};
 use css_outside::Failure;
 use std::alloc::Global;
@@ -74,14 +75,19 @@ fn system_said(alloc: Global, failure: Failure) -> Option<String> {
     .ok()
 }
 
-/// Why no dial reached the television.
-pub(crate) fn unreachable(
-    alloc: Global,
-    words: &[String],
-    failure: Option<Failure>,
-) -> Option<String> {
-    let cii = value_of(words, "--cii").unwrap_or("the television");
-    match system_said(alloc, failure?) {
+/// How the last dial failed.
+fn last_dial(alloc: Global, asked: &Asked<'_>) -> Option<String> {
+    match asked.wrong_answer {
+        Some(wrong) => format!(in alloc; "the answer was {wrong}").ok(),
+        None => system_said(alloc, asked.dial?),
+    }
+}
+
+/// Why no dial reached the television. Nothing is said where none was made.
+pub(crate) fn unreachable(alloc: Global, asked: &Asked<'_>) -> Option<String> {
+    asked.dial?;
+    let cii = value_of(asked.words, "--cii").unwrap_or("the television");
+    match last_dial(alloc, asked) {
         Some(said) => format!(in alloc; "{cii} was not reached: {said}"),
         None => format!(in alloc; "{cii} was not reached"),
     }

@@ -6,6 +6,7 @@ use crate::course::spent;
 use crate::devices::{child_fault, net_fault, unreachable};
 use crate::input::{bad_line, bad_sheet};
 use crate::line::line_of;
+use crate::options::command_in;
 use crate::session::{bad_cii, bad_url, moved, wrong_report};
 use crate::usage::usage;
 use css_num::Text;
@@ -22,11 +23,13 @@ fn words_after(alloc: Global, status: &Status, asked: &Asked<'_>) -> Option<Stri
         Status::ChildFault {
             status: Err(failure),
         } => child_fault(alloc, *failure),
-        Status::Unreachable { .. } => unreachable(alloc, asked.words, asked.dial),
+        Status::Unreachable { .. } => unreachable(alloc, asked),
         Status::Spent { .. } => spent(alloc, &asked.course),
         Status::BadCii { text, fault } => bad_cii(alloc, *text, *fault, &asked.course),
         Status::BadUrl { property } => bad_url(alloc, *property, &asked.course),
-        Status::Moved { property, old, new } => moved(alloc, *property, old, new),
+        Status::Moved { property, old, new } => {
+            moved(alloc, command_in(asked.words), *property, old, new)
+        }
         Status::WrongReport { right, .. } => wrong_report(alloc, right),
         Status::NoInterval { .. } => String::from_str(alloc, NO_INTERVAL).ok(),
         _ => None,

@@ -18,21 +18,32 @@ fn printable(byte: u8) -> u8
     }
 }
 
+/// This place, or the one before it where a character of UTF-8 goes on there.
+fn before(bytes: &[u8], place: usize) -> usize
+    ensures { result ≤ place }
+{
+    match bytes.get(place) {
+        Some(0x80..=0xbf) => place.saturating_sub(1),
+        _ => place,
+    }
+}
+
+/// The front of these bytes, at most so many. It ends within no character, and a character has at most four bytes.
+fn front(bytes: &[u8], most: usize) -> &[u8]
+    ensures { length result.now ≤ most }
+{
+    let end = bytes.len().min(most);
+    let (front, _) = bytes.split_at(before(bytes, before(bytes, before(bytes, end))));
+    front
+}
+
 /// The front of these bytes, as words of a line.
 pub(crate) fn shown(alloc: Global, bytes: &[u8], most: usize) -> Option<String> {
     let mut words = String::new(alloc);
-    for byte in bytes.get(..most).unwrap_or(bytes) {
+    for byte in front(bytes, most) {
         words.push(char::from(printable(*byte))).ok()?;
     }
     Some(words)
-}
-
-/// As many bytes as a line has room for.
-fn front(bytes: &[u8]) -> &[u8]
-    ensures { length result.now ≤ 199 }
-{
-    let (front, _) = bytes.split_at(bytes.len().min(MOST));
-    front
 }
 
 /// The front of these bytes as words of a line.
@@ -40,7 +51,7 @@ fn cut(alloc: Global, bytes: &[u8]) -> Option<Text>
     ensures { IfSome result AreWords }
 {
     let mut words = Text::new(alloc);
-    let room = front(bytes);
+    let room = front(bytes, MOST);
     for byte in room {
         words.push(&[printable(*byte)]).ok()?;
     }

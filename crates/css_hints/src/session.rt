@@ -13,12 +13,6 @@ const MOST: usize = 60;
 /// How much of a message stands in a line, in bytes.
 const MOST_SHOWN: usize = 80;
 
-/// The front of a text.
-fn front(text: &Text) -> &str {
-    let bytes = text.bytes();
-    str::from_utf8(bytes.get(..MOST).unwrap_or(bytes)).unwrap_or("?")
-}
-
 /// What a message's fault means, in three parts. The second is the name of a property, where there is one.
 fn meaning_of(fault: CiiFault) -> Option<(&'static str, &'static str, &'static str)> {
     Some(match fault {
@@ -61,12 +55,18 @@ pub(crate) fn bad_url(alloc: Global, property: CiiName, course: &Course<'_>) -> 
     .ok()
 }
 
-/// From where to where an address moved.
-pub(crate) fn moved(alloc: Global, property: CiiName, old: &Text, new: &Text) -> Option<String> {
+/// From where to where an address moved, for a run of this command.
+pub(crate) fn moved(
+    alloc: Global,
+    command: &str,
+    property: CiiName,
+    old: &Text,
+    new: &Text,
+) -> Option<String> {
     let name = property.as_str();
-    let old = front(old);
-    let new = front(new);
-    format!(in alloc; "{name} was {old} and is {new}: start the companion again").ok()
+    let old = shown(alloc, old.bytes(), MOST)?;
+    let new = shown(alloc, new.bytes(), MOST)?;
+    format!(in alloc; "{name} was {old} and is {new}: start the {command} again").ok()
 }
 
 /// The report that a line of a record was to have.

@@ -22,6 +22,10 @@ const LINK: usize = 1;
 const MOST_SENDERS: usize = 64;
 /// How many datagrams that nobody can answer, and errors of earlier ones, are passed over at once.
 const MOST_PASSED: usize = 16;
+/// How many addresses of one host are used.
+const MOST_ADDRESSES: usize = 8;
+/// How many requests in a row may be without an answer before the next address is asked.
+const MOST_UNANSWERED: u32 = 4;
 
 /// Who sent a datagram.
 #[derive(Clone, Copy)]
@@ -152,29 +156,54 @@ fn linked_socket<R: Net>(rt: &R, address: SocketAddr) -> io::Result<UdpSocket> {
     Ok(socket)
 }
 
-/// A socket for the datagrams of one peer, as a companion has.
+/// The sockets for the datagrams of one peer, as a companion has: one for each address of its host. The peer stays the
+/// same, whichever of them is asked, since the originate value of an answer says which request it answers.
 #[derive(Drop)]
 struct Link {
-    socket: UdpSocket,
     peer: u32,
+    sockets: Vec<UdpSocket>,
+    /// The place of the one that is asked.
+    asked: usize,
+    /// How many requests were sent since the last datagram came.
+    unanswered: u32,
 }
 
 impl Link {
-    /// The next datagram, where one has come.
+    /// The next datagram, where one has come. Who sent it is asked from now on.
     fn take(&mut self, into: &mut [u8; 64]) -> Result<Option<(u32, usize)>, OutFault>
         ensures room { IfOk result FitsRoom }
     {
-        match received(&self.socket, into)? {
-            Some((_, count)) => Ok(Some((self.peer, count))),
-            None => Ok(None),
+        for (place, socket) in self.sockets.iter().enumerate() {
+            if let Some((_, count)) = received(socket, into)? {
+                self.asked = place;
+                self.unanswered = 0;
+                return Ok(Some((self.peer, count)));
+            }
+        }
+        Ok(None)
+    }
+
+    /// Asks the next address, where this one hasn't answered for too long. After the last comes the first.
+    fn turn_to_next(&mut self) {
+        if self.unanswered >= MOST_UNANSWERED {
+            self.unanswered = 0;
+            self.asked = self.asked.saturating_add(1);
+            if self.asked >= self.sockets.len() {
+                self.asked = 0;
+            }
         }
     }
 
-    fn send(&self, peer: u32, bytes: &[u8; 32]) -> Result<(), OutFault> {
+    fn send(&mut self, peer: u32, bytes: &[u8; 32]) -> Result<(), OutFault> {
         if peer != self.peer {
             return Err(OutFault::Failed(Failure::Other));
         }
-        send_through(&self.socket, None, bytes)
+        self.turn_to_next();
+        self.unanswered = self.unanswered.saturating_add(1);
+        match self.sockets.get(self.asked) {
+            Some(socket) => send_through(socket, None, bytes),
+            None => Err(OutFault::Failed(Failure::Other)),
+        }
     }
 }
 
@@ -217,21 +246,43 @@ impl Datagrams {
         self.listener = Some(listener);
     }
 
-    /// Opens a socket for the datagrams of one peer, in the place of the last such one.
-    fn link<R: Net>(&mut self, rt: &R, address: SocketAddr, peer: u32) -> io::Result<()> {
+    /// A socket for the datagrams of one address.
+    fn linked<R: Net>(&mut self, rt: &R, address: SocketAddr) -> io::Result<UdpSocket> {
         let socket = linked_socket(rt, address)?;
-        let socket = self.watch.add_reader(rt, socket, LINK)?;
-        self.set_link(Link { socket, peer });
+        self.watch.add_reader(rt, socket, LINK)
+    }
+
+    /// Opens a socket for each of these addresses, in the place of the last such ones. It fails where none can be
+    /// opened.
+    fn link<R: Net>(
+        &mut self,
+        rt: &R,
+        addresses: &[SocketAddr],
+        peer: u32,
+    ) -> Result<(), OutFault> {
+        let mut sockets = Vec::new(self.alloc);
+        let mut last = OutFault::Failed(Failure::NoSuchHost);
+        for address in addresses.iter().take(MOST_ADDRESSES) {
+            match self.linked(rt, *address) {
+                Ok(socket) => sockets.push(socket).map_err(no_room)?,
+                Err(error) => last = fault_of(error),
+            }
+        }
+        if sockets.is_empty() {
+            return Err(last);
+        }
+        self.link = Some(Link {
+            peer,
+            sockets,
+            asked: 0,
+            unanswered: 0,
+        });
         Ok(())
     }
 
-    fn set_link(&mut self, link: Link) {
-        self.link = Some(link);
-    }
-
-    /// Opens a socket for the datagrams of one peer: at the address where its sessions were reached, if its host has
-    /// that one, and else at the first that can be used. Sockets of datagrams can be opened to addresses where nobody
-    /// is. False where no dial may begin now.
+    /// Opens sockets for the datagrams of one peer. The address where its sessions were reached is asked first, if its
+    /// host has that one, and else the first that can be used. Sockets of datagrams can be opened to addresses where
+    /// nobody is. False where no dial may begin now.
     pub(crate) fn dial<R: Net + Clock>(
         &mut self,
         rt: &R,
@@ -251,14 +302,8 @@ impl Datagrams {
         {
             addresses.swap(0, place);
         }
-        let mut last = OutFault::Failed(Failure::NoSuchHost);
-        for address in &addresses {
-            match self.link(rt, *address, peer) {
-                Ok(()) => return Ok(true),
-                Err(error) => last = fault_of(error),
-            }
-        }
-        Err(last)
+        self.link(rt, &addresses, peer)?;
+        Ok(true)
     }
 
     /// Waits until a datagram comes, or the pause is over.
@@ -290,9 +335,9 @@ impl Datagrams {
     }
 
     /// Sends a datagram to the peer that was linked, or to one that sent a datagram not long ago.
-    pub(crate) fn send(&self, peer: u32, bytes: &[u8; 32]) -> Result<(), OutFault> {
+    pub(crate) fn send(&mut self, peer: u32, bytes: &[u8; 32]) -> Result<(), OutFault> {
         if peer < FIRST_SENDER {
-            return match &self.link {
+            return match &mut self.link {
                 Some(link) => link.send(peer, bytes),
                 None => Err(OutFault::Failed(Failure::Other)),
             };

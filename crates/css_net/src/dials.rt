@@ -1,6 +1,7 @@
 //! Sessions that are dialled: their connections, and their handshakes, which go on from dial to dial.
 
-use crate::heads::{Head, MOST_FIELDS, Progress, has_token, value_of};
+use crate::answers::{DialFault, Wrong, check_answer};
+use crate::heads::{Head, Progress};
 use crate::masks::Masks;
 use crate::metered::Metered;
 use crate::names::{authority_of, words_of};
@@ -11,7 +12,7 @@ use crate::watch::Watch;
 use css_devices::faults::{fault_of, no_memory, no_room, would_wait};
 use css_num::{Memory, Text};
 use css_outside::{Address, Failure, Kind, OutFault};
-use httparse::{EMPTY_HEADER, Header, Response, Status};
+use httparse::Header;
 use mio::net::TcpStream;
 use std::alloc::Global;
 use std::io::Write;
@@ -19,7 +20,6 @@ use std::net::{IpAddr, Net, SocketAddr};
 use std::random::RandomSource;
 use std::time::Clock;
 use websocket::handshake::client::{ClientRequest, generate_key, write_request};
-use websocket::handshake::derive_accept_key;
 
 /// The name under which the connections of dials are watched.
 const DIAL: usize = 3;
@@ -43,36 +43,6 @@ fn request_of(alloc: Global, to: &Address, key: [u8; 24]) -> Result<Vec<u8>, Out
     match write_request(&request, &mut output) {
         Ok(()) => Ok(output),
         Err(_) => Err(OutFault::Failed(Failure::Other)),
-    }
-}
-
-/// Whether the fields of an answer give the session that was asked for with this key, and nothing else.
-fn gives_session(fields: &[Header<'_>], key: &[u8; 24]) -> bool {
-    let accept = derive_accept_key(key);
-    has_token(fields, "Upgrade", "websocket")
-        && has_token(fields, "Connection", "upgrade")
-        && value_of(fields, "Sec-WebSocket-Accept") == Some(accept.as_slice())
-        && value_of(fields, "Sec-WebSocket-Extensions").is_none()
-        && value_of(fields, "Sec-WebSocket-Protocol").is_none()
-}
-
-/// Whether this head is the answer that a request with this key wants, and else what it says.
-fn accepted(head: &[u8], key: &[u8; 24]) -> Result<(), Failure> {
-    let mut fields = [EMPTY_HEADER; MOST_FIELDS];
-    let mut response = Response::new(&mut fields);
-    match response.parse(head) {
-        Ok(Status::Complete(_)) => {}
-        _ => return Err(Failure::Other),
-    }
-    match response.code {
-        Some(101) => {}
-        Some(status) => return Err(Failure::HttpStatus(status)),
-        None => return Err(Failure::Other),
-    }
-    if response.version == Some(1) && gives_session(response.headers, key) {
-        Ok(())
-    } else {
-        Err(Failure::Other)
     }
 }
 
@@ -170,26 +140,28 @@ impl Call {
     }
 
     /// Reads what has come of the answer.
-    fn read(&mut self) -> Result<Turn, OutFault> {
+    fn read(&mut self) -> Result<Turn, DialFault> {
         self.stream.begin_turn(READS);
         for _ in 0..READS {
             match self.head.read(&mut self.stream)? {
                 Progress::More => {}
                 Progress::Waits => return Ok(Turn::Waits),
-                Progress::Whole => return match accepted(self.head.bytes(), &self.key) {
-                    Ok(()) => Ok(Turn::Opened),
-                    Err(failure) => Err(OutFault::Failed(failure)),
-                },
-                Progress::TooLong | Progress::Ended => return Err(OutFault::Failed(Failure::Other)),
+                Progress::Whole => {
+                    check_answer(self.head.bytes(), &self.key)?;
+                    return Ok(Turn::Opened);
+                }
+                Progress::TooLong | Progress::Ended => return Err(DialFault::failed(
+                    Failure::Other,
+                )),
             }
         }
         Ok(Turn::Waits)
     }
 
     /// One turn, which may be its last. One that takes too long ends.
-    fn turn(&mut self, now: u64) -> Result<Turn, OutFault> {
+    fn turn(&mut self, now: u64) -> Result<Turn, DialFault> {
         if now.saturating_sub(self.since) >= LONGEST_HANDSHAKE {
-            return Err(OutFault::Failed(Failure::TimedOut));
+            return Err(DialFault::failed(Failure::TimedOut));
         }
         match self.write()? {
             Turn::Opened => self.read(),
@@ -282,7 +254,7 @@ impl Dial {
         alloc: Global,
         reached: &mut Option<IpAddr>,
         now: u64,
-    ) -> Result<Option<Line>, OutFault> {
+    ) -> Result<Option<Line>, DialFault> {
         let Some(mut call) = self.call.take() else {
             return Ok(None);
         };
@@ -376,7 +348,7 @@ impl Caller {
         watch: &mut Watch,
         to: &Address,
         now: u64,
-    ) -> Result<Option<Line>, OutFault> {
+    ) -> Result<Option<Line>, DialFault> {
         let Some(dial) = &mut self.dial else {
             return Ok(None);
         };
@@ -392,7 +364,7 @@ impl Caller {
         look_ups: &mut LookUps,
         to: &Address,
         now: u64,
-    ) -> Result<Option<Line>, OutFault> {
+    ) -> Result<Option<Line>, DialFault> {
         self.have(rt, look_ups, to, now)?;
         // A look-up takes none of a handshake's time.
         let line = self.turn(rt, watch, to, time(rt))?;
@@ -407,6 +379,8 @@ impl Caller {
 #[derive(Clone, Copy)]
 pub(crate) struct Failures {
     last: Option<Failure>,
+    /// What was wrong with the answer to the last dial of all that failed.
+    wrong: Option<Wrong>,
     wc: Failure,
     cii: Failure,
     ts: Failure,
@@ -417,6 +391,7 @@ impl Failures {
     pub(crate) fn new() -> Failures {
         Failures {
             last: None,
+            wrong: None,
             wc: Failure::TimedOut,
             cii: Failure::TimedOut,
             ts: Failure::TimedOut,
@@ -436,10 +411,18 @@ impl Failures {
         self.last
     }
 
-    /// Notes that a dial of a kind failed.
-    pub(crate) fn fail(&mut self, kind: Kind, failure: Failure) {
-        self.last = Some(failure);
-        *self.of(kind) = failure;
+    /// What was wrong with the answer to the last dial of all that failed, where it failed by that.
+    pub(crate) fn wrong(&self) -> Option<Wrong> {
+        self.wrong
+    }
+
+    /// Notes that a dial of a kind failed. Want of memory is no failure of a dial.
+    pub(crate) fn fail(&mut self, kind: Kind, fault: DialFault) {
+        if let OutFault::Failed(failure) = fault.plain() {
+            self.last = Some(failure);
+            self.wrong = fault.wrong();
+            *self.of(kind) = failure;
+        }
     }
 
     /// How a dial of a kind is told that isn't done, or may not begin yet: as the last of its kind that failed.

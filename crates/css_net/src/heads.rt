@@ -106,6 +106,20 @@ pub(crate) fn value_of<'a>(fields: &[Header<'a>], name: &str) -> Option<&'a [u8]
     None
 }
 
+/// The value of the only field of a name. None where there are several.
+pub(crate) fn sole_value_of<'a>(fields: &[Header<'a>], name: &str) -> Option<&'a [u8]> {
+    let mut sole = None;
+    for field in fields {
+        if field.name.eq_ignore_ascii_case(name) {
+            if sole.is_some() {
+                return None;
+            }
+            sole = Some(field.value);
+        }
+    }
+    sole
+}
+
 /// Whether a token stands in a list, in any case.
 fn lists(list: &[u8], token: &str) -> bool {
     match str::from_utf8(list) {

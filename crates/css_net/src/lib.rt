@@ -4,6 +4,7 @@
 //! in turn is held for 5 milliseconds at most where nothing comes, and a bounded time where much comes.
 #![tactic(auto)]
 
+mod answers;
 mod datagrams;
 mod dials;
 mod heads;
@@ -21,6 +22,6 @@ mod sockets;
 mod upgrades;
 mod watch;
 
-pub use css_devices::{ChildSpawner, StdSink, StdSource};
+pub use css_devices::{ChildSpawner, PatientWriter, StdSink, StdSource, take_standard_numbers};
 pub use net_outside::{NetOutside, NetRuntime};
 pub use seen::Seen;

@@ -1,7 +1,9 @@
 //! What the edge does, in lines on standard error for a person who asks for them.
 
+use crate::answers::DialFault;
 use crate::names::words_of;
 use crate::session::End;
+use css_devices::errors_take_line;
 use css_num::Text;
 use css_outside::{Address, Failure, Kind, OutFault};
 use std::env::Env;
@@ -11,6 +13,8 @@ use tungstenite::CloseCode;
 
 /// How many lines a run writes at most, whatever its peers do.
 const MOST_LINES: u32 = 10_000;
+/// How many characters of a host a line has at most. So a line is short enough for a pipe or a terminal to take whole.
+const MOST_OF_HOST: usize = 100;
 
 /// Something that the edge did.
 #[derive(Clone, Copy)]
@@ -22,7 +26,7 @@ pub(crate) enum Event<'a> {
     /// It dialled, and what it opened is this peer's.
     Dialled(Kind, &'a Address, u32),
     /// A dial failed.
-    DialledNot(Kind, &'a Address, OutFault),
+    DialledNot(Kind, &'a Address, DialFault),
     /// A session was opened from there, which is this peer's.
     Opened(Kind, u32, Option<SocketAddr>),
     /// A handshake from there was refused, for this reason.
@@ -31,9 +35,13 @@ pub(crate) enum Event<'a> {
     Closed(u32, End),
 }
 
-/// The characters of a host.
+/// The characters of a host, or the first of many.
 fn shown(host: &Text) -> &str {
-    words_of(host).unwrap_or("?")
+    let host = words_of(host).unwrap_or("?");
+    match host.char_indices().nth(MOST_OF_HOST) {
+        Some((end, _)) => host.get(..end).unwrap_or(host),
+        None => host,
+    }
 }
 
 fn name_of(kind: Kind) -> &'static str {
@@ -47,7 +55,7 @@ fn name_of(kind: Kind) -> &'static str {
 fn why(end: End) -> &'static str {
     match end {
         End::ByPeer => "the peer closed it",
-        End::Broken => "the connection broke, or took too little",
+        End::Broken => "the connection ended without a close, or took too little",
         End::ByUs(CloseCode::Size) => "a text was too long",
         End::ByUs(CloseCode::Protocol) => "the peer broke a rule of WebSockets",
         End::ByUs(CloseCode::Invalid) => "a text wasn't UTF-8",
@@ -77,17 +85,18 @@ fn said(fault: OutFault) -> &'static str {
 #[derive(Clone, Copy)]
 enum Went {
     OpenAs(u32),
-    Failed(OutFault),
+    Failed(DialFault),
 }
 
 impl fmt::Display for Went {
     fn fmt<W: fmt::Write>(&self, f: &mut fmt::Formatter<W>) -> fmt::Result {
         match *self {
             Went::OpenAs(peer) => write!(f, "open as {peer}"),
-            Went::Failed(OutFault::Failed(Failure::HttpStatus(status))) => {
+            Went::Failed(DialFault::Plain(OutFault::Failed(Failure::HttpStatus(status)))) => {
                 write!(f, "HTTP status {status}")
             }
-            Went::Failed(fault) => f.write_str(said(fault)),
+            Went::Failed(DialFault::Plain(fault)) => f.write_str(said(fault)),
+            Went::Failed(DialFault::Answered(wrong)) => f.write_str(wrong.words()),
         }
     }
 }
@@ -139,7 +148,7 @@ impl fmt::Display for Event<'_> {
                     f,
                     "listening on {}: {}",
                     Port(host, port),
-                    Went::Failed(fault)
+                    Went::Failed(DialFault::Plain(fault))
                 )
             }
             Event::Dialled(kind, to, peer) => write_dial(f, kind, to, Went::OpenAs(peer)),
@@ -153,10 +162,26 @@ impl fmt::Display for Event<'_> {
     }
 }
 
-/// The lines that may still be written: none where nobody asked for them.
+/// How many lines were dropped before one that is written.
+#[derive(Clone, Copy)]
+struct Dropped(u64);
+
+impl fmt::Display for Dropped {
+    fn fmt<W: fmt::Write>(&self, f: &mut fmt::Formatter<W>) -> fmt::Result {
+        match self.0 {
+            0 => Ok(()),
+            count => write!(f, "{count} lines were dropped; "),
+        }
+    }
+}
+
+/// What was asked of the log.
 #[derive(Clone, Copy)]
 pub(crate) struct Log {
+    /// How many lines may still be written: none where nobody asked for them.
     left: u32,
+    /// How many lines were dropped since the last one that was written.
+    dropped: u64,
 }
 
 impl Log {
@@ -166,15 +191,23 @@ impl Log {
         let is_wanted = matches!(rt.var("CSS_LOG", &mut value), Ok(1)) && value[0] == b'1';
         Log {
             left: if is_wanted { MOST_LINES } else { 0 },
+            dropped: 0,
         }
     }
 
-    /// Writes a line on something that was done. One that can't be written is left out.
+    /// Writes a line on something that was done. It is dropped where it would have to wait for whoever reads it. One
+    /// that can't be written is left out.
     pub(crate) fn write<R: Eprint>(&mut self, rt: &R, event: Event<'_>) {
         if self.left == 0 {
             return;
         }
+        if !errors_take_line() {
+            self.dropped = self.dropped.saturating_add(1);
+            return;
+        }
+        let dropped = Dropped(self.dropped);
+        let _ = eprintln!(rt; "css: log: {dropped}{event}");
         self.left -= 1;
-        let _ = eprintln!(rt; "css: log: {event}");
+        self.dropped = 0;
     }
 }

@@ -48,7 +48,14 @@ impl<R: NetRuntime> NetOutside<R> {
     /// How the last dial that failed did, where one was tried. One that isn't done, or may not begin yet, changes
     /// nothing; it is `TimedOut` where none has failed.
     pub fn last_dial_failure(&self) -> Option<Failure> {
-        self.sockets.last_dial_failure()
+        self.sockets.failures().last()
+    }
+
+    /// What was wrong with the answer to the last dial that failed, in words, where it was a status 101 that makes no
+    /// session. As a failure that is `Other`.
+    pub fn wrong_answer(&self) -> Option<&'static str> {
+        let wrong = self.sockets.failures().wrong()?;
+        Some(wrong.words())
     }
 
     /// Closes the sessions that are open, and waits until the peers have what they were told, for a second at most.

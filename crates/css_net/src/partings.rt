@@ -109,10 +109,11 @@ impl Partings {
         }
     }
 
-    /// Adds a session that is watched under this name.
+    /// Adds a session that is watched under this name. Its first turn comes at once: the program may wait for a child
+    /// next, and a child that is the peer waits until it knows that nothing more will come.
     pub(crate) fn add(&mut self, name: usize, line: Line, since: u64) -> Result<(), OutFault> {
         self.make_room();
-        let parting = Parting {
+        let mut parting = Parting {
             name,
             line,
             since,
@@ -120,6 +121,7 @@ impl Partings {
             told: false,
             over: false,
         };
+        parting.turn(since);
         self.list.push(parting).map_err(no_room)
     }
 

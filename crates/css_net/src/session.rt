@@ -13,6 +13,7 @@ use std::net::SocketAddr;
 use tungstenite::{
     Bytes, CloseCode, CloseFrame, Error, Message, Role, Utf8Bytes, WebSocket, WebSocketConfig,
 };
+use websocket::error::ProtocolError;
 
 /// The greatest length of a text that is taken, in bytes.
 const LONGEST_MESSAGE: usize = 262_144;
@@ -51,7 +52,7 @@ pub(crate) enum Came {
 pub(crate) enum End {
     /// Its peer closed it.
     ByPeer,
-    /// Its connection broke, or takes too little.
+    /// Its connection ended without a close, or takes too little.
     Broken,
     /// This end closed it, and told its peer so by this code.
     ByUs(CloseCode),
@@ -75,6 +76,8 @@ fn stop_of(error: &Error) -> Stop {
         Error::OutOfMemory => Stop::Memory,
         Error::Io(error) if would_wait(error.kind()) => Stop::Waits,
         Error::Capacity(_) => Stop::Refuses(CloseCode::Size),
+        // It ended without a close, and nobody is left to be told of a rule.
+        Error::Protocol(ProtocolError::ResetWithoutClosingHandshake) => Stop::Over,
         Error::Protocol(_) => Stop::Refuses(CloseCode::Protocol),
         Error::Utf8 => Stop::Refuses(CloseCode::Invalid),
         _ => Stop::Over,

@@ -2,6 +2,7 @@
 ghost use Rattle.std.specs.Prelude.{IfOk, IfSome};
 ghost use Rattle.css_outside.specs.Outsides.{FitsRoom, IsSession};
 
+use crate::answers::DialFault;
 use crate::datagrams::Datagrams;
 use crate::dials::{Dials, Failures};
 use crate::log::{Event, Log};
@@ -300,7 +301,7 @@ impl Sockets {
         to: &Address,
         peer: u32,
         now: u64,
-    ) -> Result<bool, OutFault> {
+    ) -> Result<bool, DialFault> {
         let caller = self.dials.of(kind);
         let line = caller.go_on(rt, &mut self.watch, &mut self.look_ups, to, now)?;
         let Some(line) = line else {
@@ -318,13 +319,13 @@ impl Sockets {
         kind: Kind,
         to: &Address,
         peer: u32,
-    ) -> Result<bool, OutFault> {
+    ) -> Result<bool, DialFault> {
         let now = time(rt);
         match kind {
             Kind::Wc => {
                 let reached = self.dials.cii.reached();
-                self.datagrams
-                    .dial(rt, &mut self.look_ups, to, reached, peer, now)
+                let look_ups = &mut self.look_ups;
+                Ok(self.datagrams.dial(rt, look_ups, to, reached, peer, now)?)
             }
             Kind::Cii | Kind::Ts => self.call(rt, kind, to, peer, now),
         }
@@ -347,17 +348,15 @@ impl Sockets {
             Ok(false) => Err(OutFault::Failed(self.failures.wait(kind))),
             Err(fault) => {
                 self.log.write(rt, Event::DialledNot(kind, to, fault));
-                if let OutFault::Failed(failure) = fault {
-                    self.failures.fail(kind, failure);
-                }
-                Err(fault)
+                self.failures.fail(kind, fault);
+                Err(fault.plain())
             }
         }
     }
 
-    /// How the last dial failed that was tried, where one was.
-    pub(crate) fn last_dial_failure(&self) -> Option<Failure> {
-        self.failures.last()
+    /// How the last dials failed.
+    pub(crate) fn failures(&self) -> &Failures {
+        &self.failures
     }
 
     // ---- datagrams
@@ -401,7 +400,7 @@ impl Sockets {
         self.wait_for(rt, into)
     }
 
-    pub(crate) fn send_datagram(&self, peer: u32, bytes: &[u8; 32]) -> Result<(), OutFault> {
+    pub(crate) fn send_datagram(&mut self, peer: u32, bytes: &[u8; 32]) -> Result<(), OutFault> {
         self.datagrams.send(peer, bytes)
     }
 

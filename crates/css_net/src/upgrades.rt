@@ -2,7 +2,7 @@
 
 ghost use Rattle.css_outside.specs.Outsides.{IsSession};
 
-use crate::heads::{Head, MOST_FIELDS, Progress, has_token, value_of};
+use crate::heads::{Head, MOST_FIELDS, Progress, has_token, sole_value_of, value_of};
 use crate::metered::Metered;
 use crate::watch::Watch;
 use css_devices::faults::{fault_of, no_room};
@@ -126,9 +126,9 @@ fn asks_for_upgrade(fields: &[Header<'_>]) -> bool {
         && value_of(fields, "Sec-WebSocket-Version") == Some(b"13".as_slice())
 }
 
-/// The key that the answer to a request has.
+/// The key that the answer to a request has. A request tells one.
 fn key_by(fields: &[Header<'_>]) -> Result<[u8; 28], Refusal> {
-    let Some(key) = value_of(fields, "Sec-WebSocket-Key") else {
+    let Some(key) = sole_value_of(fields, "Sec-WebSocket-Key") else {
         return Err(Refusal::Malformed);
     };
     match accept_key(key) {
@@ -137,12 +137,16 @@ fn key_by(fields: &[Header<'_>]) -> Result<[u8; 28], Refusal> {
     }
 }
 
+/// The same, where all of the request is as it has to be. Each names its host, once.
 fn key_of(
     service: Service,
     method: &str,
     target: &str,
     fields: &[Header<'_>],
 ) -> Result<[u8; 28], Refusal> {
+    if sole_value_of(fields, "Host").is_none() {
+        return Err(Refusal::Malformed);
+    }
     if path_of(target) != Some(service.path()) {
         return Err(Refusal::OtherPath);
     }

@@ -49,6 +49,7 @@ fn a_source_keeps_its_last_lines(rt: HostRuntime) {
     for _ in 0..60 {
         source.read(&mut piece).expect(&rt, "a piece");
     }
+    source.end_lines();
     assert!(rt; source.first_line_returned());
     assert!(rt; source.line(1).is_none());
     assert!(rt; source.line(9_001) == Some(b"line".as_slice()));

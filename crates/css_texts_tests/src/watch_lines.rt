@@ -65,8 +65,8 @@ fn a_state_has_all_nine_properties(rt: HostRuntime) {
 const CONTROLS: [(&str, &str); 5] = [
     (r#"{"wallClockTime":"010","timelineSpeedMultiplier":-64.0,"contentTime":"-9000"}"#,
         r#"{"control":{"contentTime":"-9000","timelineSpeedMultiplier":-64,"wallClockTime":"10"},"event":"control"}"#),
-    (r#"{"contentTime":null}"#,
-        r#"{"control":{"contentTime":null,"timelineSpeedMultiplier":null,"wallClockTime":"0"},"event":"control"}"#),
+    (r#"{"contentTime":null,"timelineSpeedMultiplier":null,"wallClockTime":"5"}"#,
+        r#"{"control":{"contentTime":null,"timelineSpeedMultiplier":null,"wallClockTime":null},"event":"control"}"#),
     ("{", r#"{"event":"control","fault":"NotJson"}"#),
     ("{}", r#"{"event":"control","fault":"Field contentTime"}"#),
     (r#"{"contentTime":"1","timelineSpeedMultiplier":65,"wallClockTime":"1"}"#,

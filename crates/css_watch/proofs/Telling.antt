@@ -21,7 +21,7 @@ use Rattle.css_watch_lines.specs.Lines.{Line, line_text}
 use Rattle.css_watch.specs.Progress.{progress_after, after_sleep}
 use Rattle.css_watch.specs.Telling as telling
 use Rattle.css_watch.specs.Telling.{Told, told_of, text_of, lines_by, answers_after}
-use Rattle.css_watch.specs.Watching.{Accepts, AreFrom, GoesOn, IsOf, IsStep, IsTelling, IsToldBy, Steps}
+use Rattle.css_watch.specs.Watching.{Accepts, AreFrom, GoesOn, IsOf, IsStep, IsTelling, IsToldBy, Says, Steps}
 use Rattle.css_watch.specs.Watching.{Wakes, Writes, over_by, parting_by}
 use Rattle.css_drive.specs.declared.parting.Parting.{Parting}
 use Rattle.css_drive.specs.declared.parting.Parting.TheVariants as parting
@@ -169,6 +169,13 @@ step_on plan start from event notes was is old new over parting held mid holds b
         subst P (sym o) (subst Q (sym p) (lines_on (Some cause) held mid holds before m now (lines_by plan event
         from.history (told_of plan
         start notes).progress) (told_of plan start notes).lines g.wrote wrote))
+
+-- what was said of an end, it was said of an equal one
+pub says_as : {over : Option OutFault} {parting wanted other : Option Parting} {held holds : Option (List ℕ)}
+    {before now : ℕ} {bytes : List ℕ} → wanted ≡ other → Says over parting wanted held holds before now bytes
+    → Says over parting other held holds before now bytes
+says_as {over} {parting} {wanted} {other} {held} {holds} {before} {now} {bytes} e s =
+    let P : Option Parting → Type 0 = λ x. Says over parting x held holds before now bytes in subst P e s
 
 -- ---- notes of one run
 pub from_older : (plan : Plan) (from : Standpoint) (slept : Bool) (notes : List Note)

@@ -1,5 +1,5 @@
 -- How far a visit of a watch came, by what its observer was told.
-use Rattle.std.specs.Prelude.{ℕ, ◌+◌, ◌-◌, ◌^◌, min, List, Bool, true, false, ◌||◌, if◌then◌else◌, is_some}
+use Rattle.std.specs.Prelude.{ℕ, ◌+◌, ◌-◌, ◌^◌, min, List, Bool, true, false, not, ◌&&◌, ◌||◌, if◌then◌else◌, is_some}
 use Rattle.std.specs.Prelude.{Option, Some, None, unwrap_or, Result, Ok, Err}
 use Rattle.css_model.specs.declared.Kind.{Kind}
 use Rattle.css_model.specs.declared.Kind.TheVariants as kind
@@ -47,6 +47,7 @@ fresh begun = record {
   ts = Never;
   cii_open = None;
   ts_open = None;
+  ts_closed = false;
   asked = false;
   waiting = 0;
   refused = None;
@@ -90,10 +91,23 @@ with_dial is_open begun = record begun { reached = begun.reached || is_open }
 abbrev pub after_sleep : Progress → Progress
 after_sleep progress = record progress { slept = true; asked = false; waiting = 0; refused = None }
 
+abbrev pub is_open : Tried → Bool
+is_open Never = false
+is_open Failed = false
+is_open Open = true
+
+-- whether CSS-TS was open and isn't any more
+abbrev pub has_closed_ts : Progress → Bool
+has_closed_ts progress = is_open progress.ts && not (is_some progress.ts_open)
+
 -- after a turn, and its report, if one is due
 abbrev pub after_turn : ℕ → Option Report → Progress → Progress
-after_turn reading due progress =
-    record progress { begun = with_due due (with_turn reading progress.begun); entered = true; slept = false }
+after_turn reading due progress = record progress {
+  begun = with_due due (with_turn reading progress.begun);
+  entered = true;
+  slept = false;
+  ts_closed = has_closed_ts progress;
+}
 
 abbrev pub tried_by : Option ℕ → Tried
 tried_by None = Failed

@@ -35,7 +35,7 @@ use Rattle.css_watch_lines.specs.Lines.{Unknown, line_text}
 use Rattle.css_watch_lines.specs.Words.{landing_words}
 use Rattle.css_watch_lines.specs.declared.known.Known.{Known as Ticking}
 use Rattle.css_watch_lines.specs.declared.known.Ticks.{Ticks}
-use Rattle.css_watch.specs.Progress.{progress_after, judged, reports_now, tried_by, counted, told_number}
+use Rattle.css_watch.specs.Progress.{progress_after, judged, reports_now, tried_by, counted, told_number, is_open}
 use Rattle.css_drive.specs.declared.parting.Parting.{Parting}
 use Rattle.css_drive.specs.declared.parting.Parting.TheVariants as parting
 use Rattle.css_watch.specs.declared.plan.Plan.{Plan}
@@ -45,11 +45,6 @@ use Rattle.css_watch.specs.declared.progress.Tried.{Tried}
 use Rattle.css_watch.specs.declared.progress.Tried.TheVariants.{Never, Failed, Open}
 
 -- ---- how far a visit came, in words
-abbrev pub is_open : Tried → Bool
-is_open Never = false
-is_open Failed = false
-is_open Open = true
-
 abbrev pub refused_words : Option Landing → List ℕ
 refused_words None = []
 refused_words (Some refusal) = codes "the last datagram was refused: " ++ landing_words refusal
@@ -195,12 +190,23 @@ answers_after plan (Landed reading bytes) history answers = with_judged (judged 
 answers_after plan _ history answers = answers
 
 -- ---- when the observer ends a visit
--- The turn is the last of the watch, by its time since the watch's first turn. The first visit's own run has that
--- limit, and needs no observer to end.
+-- whether the turn is the last of the watch, by its time since the watch's first turn
+abbrev pub is_last : Plan → ℕ → Begun → Bool
+is_last plan reading begun = is_over plan.run.limit (unwrap_or begun.first reading) reading
+
+-- The turn is the last of the watch. The first visit's own run has that limit, and needs no observer to end.
 abbrev pub late : Plan → ℕ → Begun → Option Parting
-late plan reading begun =
-    if nat_lt 1 begun.visits && is_over plan.run.limit (unwrap_or begun.first reading) reading then Some parting.Late
-    else None
+late plan reading begun = if nat_lt 1 begun.visits && is_last plan reading begun then Some parting.Late else None
+
+-- CSS-TS had closed when the turn before began, so CSS-CII was heard once more since.
+abbrev pub closed_before : Plan → ℕ → Progress → Option Parting
+closed_before plan reading progress =
+    if progress.ts_closed && not (is_last plan reading progress.begun) then Some (parting.Closed session.Ts) else None
+
+-- CSS-CII ends a visit where it closes. CSS-TS doesn't yet: what CSS-CII has ready may say where it is now.
+abbrev pub closed_at_once : Session → Option Parting
+closed_at_once session.Cii = Some (parting.Closed session.Cii)
+closed_at_once session.Ts = None
 
 -- the answers disagree with the one that was just accepted
 abbrev pub parting_at : Local → ℕ → Result Answer Landing → Answers → Option Parting
@@ -209,10 +215,11 @@ parting_at own reading (Ok answer) answers =
 parting_at own reading (Err refusal) answers = None
 
 abbrev pub parting_by : Plan → Event → History → Progress → Answers → Option Parting
-parting_by plan (Turn reading) history progress answers = late plan reading progress.begun
+parting_by plan (Turn reading) history progress answers =
+    option_or (late plan reading progress.begun) (closed_before plan reading progress)
 parting_by plan (Landed reading bytes) history progress answers =
     parting_at plan.run.companion.local reading (judged plan history reading bytes) answers
-parting_by plan (Closed which) history progress answers = Some (parting.Closed which)
+parting_by plan (Closed which) history progress answers = closed_at_once which
 parting_by plan _ history progress answers = None
 
 -- ---- all of it

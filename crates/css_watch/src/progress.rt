@@ -42,6 +42,8 @@ pub struct Progress {
     /// The peers of the sessions that are open.
     pub cii_open: Option<u32>,
     pub ts_open: Option<u32>,
+    /// Whether the television had closed CSS-TS when the last turn began.
+    pub ts_closed: bool,
     /// Whether a request was sent since the last sleep.
     pub asked: bool,
     /// How many requests were sent since the last landing or sleep.

@@ -153,6 +153,7 @@ impl Progress {
             ts: Tried::Never,
             cii_open: None,
             ts_open: None,
+            ts_closed: false,
             asked: false,
             waiting: 0,
             refused: None,
@@ -172,6 +173,13 @@ impl Progress {
         }
     }
 
+    /// Whether CSS-TS was open and isn't any more.
+    fn has_closed_ts(&self) -> bool
+        ensures { result ≡ spec.has_closed_ts self.now }
+    {
+        self.ts == Tried::Open && self.ts_open.is_none()
+    }
+
     /// After a turn with its report, if one is due.
     pub(crate) fn after_turn(self, reading: u64, due: &Option<Report>) -> Progress
         ensures { result ≡ spec.after_turn reading due.now self }
@@ -184,6 +192,7 @@ impl Progress {
             },
             entered: true,
             slept: false,
+            ts_closed: self.has_closed_ts(),
             ..self
         }
     }

@@ -107,15 +107,43 @@ fn parting_after(fault: Option<OutFault>, parting: Option<Parting>) -> Option<Pa
     }
 }
 
+/// Whether the turn is the last of the watch, by its time.
+fn is_last(plan: &Plan, reading: u64, begun: &Begun) -> bool
+    ensures { result ≡ telling.is_last plan.now reading begun.now }
+{
+    let first = begun.first.unwrap_or(reading);
+    is_over(plan.run.limit, first, reading)
+}
+
 /// Whether the turn is the last of the watch. The first visit ends by its own run's limit.
 fn late(plan: &Plan, reading: u64, begun: &Begun) -> Option<Parting>
     ensures { result ≡ telling.late plan.now reading begun.now }
 {
-    let first = begun.first.unwrap_or(reading);
-    if begun.visits > 1 && is_over(plan.run.limit, first, reading) {
+    if begun.visits > 1 && is_last(plan, reading, begun) {
         return Some(Parting::Late);
     }
     None
+}
+
+/// Whether CSS-TS had closed when the turn before began, so that CSS-CII was heard once more since.
+fn closed_before(plan: &Plan, reading: u64, progress: &Progress) -> Option<Parting>
+    ensures { result ≡ telling.closed_before plan.now reading progress.now }
+{
+    if progress.ts_closed && !is_last(plan, reading, &progress.begun) {
+        return Some(Parting::Closed(Session::Ts));
+    }
+    None
+}
+
+/// Whether a visit ends at once where a session closes. After CSS-TS it goes on a little: what CSS-CII has ready may
+/// say where that is now.
+fn closed_at_once(session: Session) -> Option<Parting>
+    ensures { result ≡ telling.closed_at_once session }
+{
+    match session {
+        Session::Cii => Some(Parting::Closed(Session::Cii)),
+        Session::Ts => None,
+    }
 }
 
 /// Takes a sleep in, if one was told: the answers of before say nothing of the wall clock any more.
@@ -195,7 +223,8 @@ impl<'a, K: Sink> Watching<'a, K> {
             (K.holds self.new.sink.now) (K.faults self.old.sink.now) (K.faults self.new.sink.now) }
     {
         let text = turn_text(self.alloc, self.plan, reading, companion, &self.progress);
-        let parting = late(self.plan, reading, &self.progress.begun);
+        let late = late(self.plan, reading, &self.progress.begun);
+        let parting = late.or(closed_before(self.plan, reading, &self.progress));
         let due = report_due(self.plan, reading, &self.progress.begun, companion);
         self.progress = self.progress.after_turn(reading, &due);
         self.say(text, parting);
@@ -302,6 +331,6 @@ impl<K: Sink> Observes for Watching<'_, K> {
 
     fn closed(&mut self, session: Session) {
         self.progress = self.progress.after_end(session);
-        self.say(Ok(Text::new(self.alloc)), Some(Parting::Closed(session)));
+        self.say(Ok(Text::new(self.alloc)), closed_at_once(session));
     }
 }

@@ -58,6 +58,10 @@ all_possible own (landed ∷ older) a =
     possible_in own landed older (possible_answers own older) (All-head IsDeclared landed older a)
     (all_possible own older (All-tail IsDeclared landed older a))
 
+-- and so does each that is accepted
+pub accepted_declare : (own : Local) (history : History) → DeclareInRange (accepted_answers own history)
+accepted_declare own history = all_possible own (landed_answers history) (all_landed history)
+
 -- ---- the disagreement
 parted : (own : Local) (reading : ℕ) (judged : Result Answer Landing) (answers : Answers)
     → parting_at own reading judged answers ≡ Some parting.Disagree
@@ -76,7 +80,6 @@ disagreements_are_false plan progress history peer reading bytes parts errors wo
     let accepted = (landings_are_judged own history peer reading bytes).accepted in
     let P : Answers → Type 0 = λ x. disagree own reading x ≡ true in
     disagreement_is_false own reading (accepted_answers own (Clock why.Land reading ∷ Took peer bytes ∷ history))
-    (all_possible own (landed_answers (Clock why.Land reading ∷ Took peer bytes ∷ history)) (all_landed (Clock why.Land
-    reading ∷ Took peer bytes ∷ history)))
+    (accepted_declare own (Clock why.Land reading ∷ Took peer bytes ∷ history))
     (subst P (sym accepted) (parted own reading (judged_of own (Took peer bytes ∷ history) reading bytes)
     (accepted_answers own history) parts)) errors world who sleeps i for reads truthful

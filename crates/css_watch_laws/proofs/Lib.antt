@@ -1,3 +1,4 @@
 pub mod Accepted
+pub mod Carried
 pub mod Contradictions
 pub mod Ticks

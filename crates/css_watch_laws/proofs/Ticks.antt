@@ -18,7 +18,7 @@ use Rattle.css_watch_lines.specs.Lines.{Known}
 use Rattle.css_watch_lines.specs.declared.known.Known.{Known as Ticking}
 use Rattle.css_watch_lines.specs.declared.known.Ticks.{Ticks}
 
-same_known : (n r m s : ℕ) (x y : Ticking) → Known n r x ≡ Known m s y → x ≡ y
+pub same_known : (n r m s : ℕ) (x y : Ticking) → Known n r x ≡ Known m s y → x ≡ y
 same_known n r m s x y e = cc
 
 -- a line with ticks has those that it was made of

@@ -1,11 +1,14 @@
 -- What is promised of the visits of a watch.
-use Rattle.std.specs.Prelude.{◌≡◌, ℕ, List, ◌∷◌, All, Some}
+use Rattle.std.specs.Prelude.{◌≡◌, ℕ, List, ◌∷◌, All, Some, IfSome}
 use Rattle.css_agree.specs.Agreements.{IsTruthful}
+use Rattle.css_carry.specs.CarriedReports.{carried_report}
 use Rattle.css_companion.specs.Headline.{IsPromised}
+use Rattle.css_companion.specs.Meanings.{assigned_after, timing_after}
+use Rattle.css_companion.specs.Reports.{HasTickOf}
 use Rattle.css_companion.specs.declared.report.Report.TheVariants as report
 use Rattle.css_drive.specs.Notes.{Landed, noted}
 use Rattle.css_model.specs.Explains.{IsLawful}
-use Rattle.css_model.specs.History.{Clock, History, Took, accepted_answers}
+use Rattle.css_model.specs.History.{Clock, History, Took, accepted_answers, wall_answer}
 use Rattle.css_model.specs.World.{Errors, IsWorldFor, Reads, World}
 use Rattle.css_model.specs.declared.Why.TheVariants as why
 use Rattle.css_watch.specs.Telling.{parting_by, report_line, told_of}
@@ -39,3 +42,17 @@ TicksKeepTheHeadline = (plan : Plan) (number reading : ℕ) (history : History) 
     → IsLawful history → report_line plan number reading history progress ≡ Known number reading told
     → IsPromised plan.run.companion.local plan.run.companion.selector history reading
     (report.Ticks told.ticks.lo told.ticks.hi)
+
+-- A line with ticks can be carried on, whatever the visit is told later. In each world that keeps the oscillators'
+-- errors and makes the report's answer truthful, the narrowest one that was accepted, the ticks then contain what the
+-- last control timestamp assigns to the wall clock at the later reading, by the rate of the last state.
+abbrev pub CarriedLinesAreTrue : Type 0
+CarriedLinesAreTrue = (plan : Plan) (number reading later : ℕ) (history newer : History) (progress : Progress)
+    (told : Ticking) → report_line plan number reading history progress ≡ Known number reading told
+    → (errors : Errors) (world : World) (who sleeps i : ℕ)
+    → IsWorldFor errors world who plan.run.companion.local
+    → Reads world who i plan.run.companion.local.precision later sleeps
+    → IfSome (wall_answer plan.run.companion.local history reading)
+    (IsTruthful errors world who plan.run.companion.local sleeps i)
+    → HasTickOf (carried_report plan.run.companion.local reading told (timing_after plan.run.companion.selector newer)
+    later) (assigned_after plan.run.companion.selector newer (world i).wall)

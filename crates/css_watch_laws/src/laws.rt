@@ -1,6 +1,7 @@
 //! The answers of a visit, its contradictions, and its reports.
 
 ghost use Rattle.css_watch_laws.specs.Promises.{AnswersAreAccepted, DisagreementsAreFalse, TicksKeepTheHeadline};
+ghost use Rattle.css_watch_laws.specs.Promises.{CarriedLinesAreTrue};
 
 /// The answers that a visit holds together are those that its companion accepted since its last sleep.
 pub fn answers_are_accepted()
@@ -18,4 +19,11 @@ pub fn disagreements_are_false()
 /// happened, and they come from the visit's narrowest accepted answer.
 pub fn ticks_keep_the_headline()
     ensures { TicksKeepTheHeadline }
+{}
+
+/// The ticks in the line of a report, carried on to a later reading, contain the position that the last control
+/// timestamp assigns to the television's wall clock there, by the rate of the last state: in each world that keeps the
+/// oscillators' errors and makes the report's answer truthful, whatever the visit was told since.
+pub fn carried_lines_are_true()
+    ensures { CarriedLinesAreTrue }
 {}

@@ -3,6 +3,8 @@ use Rattle.std.proofs.Common.{ℤ, pos, negsuc, Ok, Err, refl, arith}
 use Rattle.json.proofs.Printed.Utf8.{IsUtf8-are_ascii}
 use Rattle.serde_json.specs.Data.{object, no_members}
 use Rattle.css_num.specs.Spans.{Interval}
+use Rattle.css_num.specs.declared.control.Control.{Control}
+use Rattle.css_num.specs.declared.control.Control.TheVariants.{Available, Unavailable}
 use Rattle.css_text.specs.Ordered.{HasUtf8, MembersHaveUtf8, IsOrdered, AreOrderedAfter}
 use Rattle.css_text.proofs.Laws.{object_compact}
 use Rattle.css_cii.specs.States.{full_change}
@@ -10,9 +12,10 @@ use Rattle.css_cii.specs.Texts.{change_members, IsUtf8State}
 use Rattle.css_cii.specs.declared.state.State.{State}
 use Rattle.css_cii.proofs.Laws.{change_ordered, change_utf8}
 use Rattle.css_cii.proofs.Utf8.{full-utf8}
+use Rattle.css_tsmsg.specs.Controls.{IsInRange}
 use Rattle.css_tsmsg.proofs.ReadBack.{control_ordered, control_utf8}
 use Rattle.css_watch_lines.specs.Lines.{Line, Visit, Dial, StateTold, ControlTold, Answered, Refused, SleptAt, Known}
-use Rattle.css_watch_lines.specs.Lines.{Unknown, Ended, line_members, line_data, span_data, ticks_data}
+use Rattle.css_watch_lines.specs.Lines.{Unknown, Ended, line_members, line_data, span_data, ticks_data, told_control}
 use Rattle.css_watch_lines.specs.declared.known.Ticks.{Ticks}
 use Rattle.css_watch_lines.specs.Lines.{signed, IsReadBack}
 use Rattle.css_watch_lines.specs.Ranges.{IsTellable, EndsFit, TicksFit}
@@ -79,6 +82,15 @@ ticks_utf8 ticks h = (signed_utf8 ticks.lo h.lo, (signed_utf8 ticks.hi h.hi, tt)
 state_utf8 : (state : State) → IsUtf8State state → HasUtf8 (object (change_members (full_change state)))
 state_utf8 state h = change_utf8 (full_change state) (full-utf8 state h)
 
+-- a control timestamp
+told_utf8 : (control : Control) → IsInRange control → HasUtf8 (told_control control)
+told_utf8 (Available content wall speed) h = control_utf8 (Available content wall speed) h
+told_utf8 Unavailable h = (
+  IsUtf8-are_ascii _ refl,
+  tt,
+  (IsUtf8-are_ascii _ refl, tt, (IsUtf8-are_ascii _ refl, tt, tt)),
+)
+
 -- all of them
 line_utf8 : (line : Line) → IsTellable line → MembersHaveUtf8 (line_members line)
 line_utf8 (Visit count reading) h = (
@@ -106,7 +118,7 @@ line_utf8 (StateTold state) h = (
 )
 line_utf8 (ControlTold (Ok control)) h = (
   IsUtf8-are_ascii _ refl,
-  control_utf8 control h,
+  told_utf8 control h,
   (IsUtf8-are_ascii _ refl, IsUtf8-are_ascii _ refl, tt),
 )
 line_utf8 (ControlTold (Err fault)) h = (
@@ -216,12 +228,17 @@ signed_ordered : (z : ℤ) → IsOrdered (signed z)
 signed_ordered (pos n) = tt
 signed_ordered (negsuc n) = tt
 
+-- the names of a control timestamp are
+told_ordered : (control : Control) → IsOrdered (told_control control)
+told_ordered (Available content wall speed) = control_ordered (Available content wall speed)
+told_ordered Unavailable = (tt, tt, ((refl, tt), tt, ((refl, (refl, tt)), tt, tt)))
+
 -- all of them
 line_ordered : (line : Line) → AreOrderedAfter no_members (line_members line)
 line_ordered (Visit count reading) = (tt, tt, ((refl, tt), tt, ((refl, (refl, tt)), tt, tt)))
 line_ordered (Dial kind is_open) = (tt, tt, ((refl, tt), tt, ((refl, (refl, tt)), tt, tt)))
 line_ordered (StateTold state) = (tt, tt, ((refl, tt), change_ordered (full_change state), tt))
-line_ordered (ControlTold (Ok control)) = (tt, control_ordered control, ((refl, tt), tt, tt))
+line_ordered (ControlTold (Ok control)) = (tt, told_ordered control, ((refl, tt), tt, tt))
 line_ordered (ControlTold (Err fault)) = (tt, tt, ((refl, tt), tt, tt))
 line_ordered (Answered answer kind landed width) = (
   tt,

@@ -15,9 +15,9 @@ use Rattle.css_cii.specs.States.{full_change}
 use Rattle.css_cii.specs.Texts.{rate_data, change_members, EachIn, RatesAreInRange}
 use Rattle.css_cii.specs.declared.state.State.{State}
 use Rattle.css_cii.proofs.RoundTrips.{plain_change, low_change}
-use Rattle.css_tsmsg.specs.Controls.{control_data, IsInRange}
+use Rattle.css_tsmsg.specs.Controls.{IsInRange}
 use Rattle.css_tsmsg.proofs.RoundTrips.{control_plain}
-use Rattle.css_watch_lines.specs.Lines.{whole, signed, span_data, ticks_data}
+use Rattle.css_watch_lines.specs.Lines.{whole, signed, span_data, ticks_data, told_control}
 use Rattle.css_watch_lines.specs.declared.known.Ticks.{Ticks}
 use Rattle.css_watch_lines.specs.Writable.{IsWritable, AreWritable}
 
@@ -101,10 +101,9 @@ pub state_writable : (state : State) → EachIn RatesAreInRange state.timelines
 state_writable state h = record { plain = state_plain state h; shallow = omega (arith, low_change (full_change state)) }
 
 -- a control timestamp nests one level deep
-control_shallow : (c : Control) → depth (control_data c) ≤ 9
-control_shallow (Available content wall speed) = omega arith
-control_shallow Unavailable = omega arith
-
--- so it can stand in a line
-pub control_writable : (c : Control) → IsInRange c → IsWritable (control_data c)
-control_writable c h = record { plain = control_plain c h; shallow = control_shallow c }
+pub control_writable : (c : Control) → IsInRange c → IsWritable (told_control c)
+control_writable (Available content wall speed) h = record {
+  plain = control_plain (Available content wall speed) h;
+  shallow = omega arith;
+}
+control_writable Unavailable h = record { plain = (tt, (tt, (tt, tt))); shallow = omega arith }

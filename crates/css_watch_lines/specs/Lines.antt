@@ -1,19 +1,20 @@
 -- What the lines of a watch tell, and the JSON object of each.
 use Rattle.std.specs.Prelude.{◌≡◌, ℕ, ℤ, pos, List, [], ◌∷◌, ◌++◌, Bool, Result, Ok, Err, codes}
 use Rattle.std.specs.Fmt.{signed_decimal}
-use Rattle.serde_json.specs.Data.{Data, number, unsigned, string, array, object, no_items, item}
+use Rattle.serde_json.specs.Data.{Data, null, number, unsigned, string, array, object, no_items, item}
 use Rattle.serde_json.specs.Data.{Members, no_members, member}
 use Rattle.serde_json.specs.Find.{of_integer}
 use Rattle.serde_json.specs.Written.{compact_text}
 use Rattle.css_num.specs.Spans.{Interval}
 use Rattle.css_num.specs.declared.control.Control.{Control}
+use Rattle.css_num.specs.declared.control.Control.TheVariants.{Available, Unavailable}
 use Rattle.css_model.specs.WallClock.{Answer}
 use Rattle.css_model.specs.declared.Kind.{Kind}
 use Rattle.css_text.specs.Readings.{object_of, members_or_fault}
 use Rattle.css_cii.specs.States.{full_change}
 use Rattle.css_cii.specs.Texts.{change_members, rate_data}
 use Rattle.css_cii.specs.declared.state.State.{State}
-use Rattle.css_tsmsg.specs.Controls.{control_data}
+use Rattle.css_tsmsg.specs.Controls.{control_data, times_data}
 use Rattle.css_tsmsg.specs.declared.fault.TsFault.{TsFault}
 use Rattle.css_client.specs.declared.landing.Landing.{Landing}
 use Rattle.css_companion.specs.Printed.{cause_words, fault_words}
@@ -71,6 +72,11 @@ abbrev pub span_data : Interval → Data
 span_data span = array (item (digits span.lo) (item (digits span.hi) no_items))
 
 -- ---- objects
+-- a control timestamp, whose members are all null where the timeline isn't available
+abbrev pub told_control : Control → Data
+told_control (Available content wall speed) = control_data (Available content wall speed)
+told_control Unavailable = times_data null null null
+
 -- the members of each report
 abbrev pub report_members : ℕ → ℕ → Members
 report_members count reading =
@@ -102,7 +108,7 @@ line_members (StateTold state) =
     member (codes "event") (string (codes "state"))
     (member (codes "state") (object (change_members (full_change state))) no_members)
 line_members (ControlTold (Ok control)) =
-    member (codes "control") (control_data control)
+    member (codes "control") (told_control control)
     (member (codes "event") (string (codes "control")) no_members)
 line_members (ControlTold (Err fault)) =
     member (codes "event") (string (codes "control"))

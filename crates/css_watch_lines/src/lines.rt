@@ -1,4 +1,5 @@
 ghost use Rattle.std.specs.Prelude.{◌≡◌, ◌<◌, ◌^◌, IfOk, OnOk, Ok, Err};
+ghost use Rattle.serde_json.specs.View.{view};
 ghost use Rattle.css_cii.specs.Texts.{IsUtf8State};
 ghost use Rattle.css_tsmsg.specs.Controls.{IsInRange};
 ghost use Rattle.css_watch_lines.specs.Lines as lines;
@@ -14,7 +15,8 @@ use css_model::Kind;
 use css_num::{Control, Memory, Text};
 use css_span::Answer;
 use css_tsmsg::{TsFault, control_value};
-use std::alloc::Global;
+use serde_json::{Value, json};
+use std::alloc::{AllocError, Global};
 
 /// The line where a visit begins: `event` is `visit`. Visits are counted from 1.
 pub fn visit_line(alloc: Global, number: u64, reading: u64) -> Result<Text, Memory>
@@ -52,13 +54,25 @@ pub fn state_line(alloc: Global, state: &State) -> Result<Text, Memory>
         .line()
 }
 
+/// The object of a control timestamp, whose members are all null where the timeline isn't available.
+fn told_value(alloc: Global, control: &Control) -> Result<Value, AllocError>
+    ensures { IfOk result (λ value. view value ≡ lines.told_control control.now) }
+{
+    match control {
+        Control::Available { .. } => control_value(alloc, control),
+        Control::Unavailable => {
+            json!(in alloc; {"contentTime": null, "timelineSpeedMultiplier": null, "wallClockTime": null})
+        }
+    }
+}
+
 /// The line of a control timestamp.
 fn taken_line(alloc: Global, control: &Control) -> Result<Text, Memory>
     requires { IsInRange control.now }
     ensures text { IfOk result (λ text. text ≡ lines.line_text (lines.ControlTold (Ok control.now))) }
     ensures read_back { OnOk result (lines.IsReadBack (lines.line_data (lines.ControlTold (Ok control.now)))) }
 {
-    let control = control_value(alloc, control)?;
+    let control = told_value(alloc, control)?;
     Members::of_event(alloc, "control")?
         .with_value("control", control)?
         .line()
@@ -75,7 +89,8 @@ fn unread_line(alloc: Global, fault: TsFault) -> Result<Text, Memory>
         .line()
 }
 
-/// The line of a TS text: `event` is `control`. It has the control timestamp, as its own text says it, or the fault.
+/// The line of a TS text: `event` is `control`. It has the control timestamp, or the fault. Where the timeline isn't
+/// available all three members are null, also the wall time, which a television's own text has.
 ///
 /// The content time has at most 18 digits, the wall time is below 2^63, and the speed is -64 to 64.
 pub fn control_line(alloc: Global, told: &Result<Control, TsFault>) -> Result<Text, Memory>

@@ -1,8 +1,8 @@
 #!/usr/bin/env python3
 """Replays drawn schedules of both ends by a plain second computation, and compares it with the program `css`.
 
-    bench/second.py [COUNT [SEED]]       COUNT schedules (500), replayed by the program that ./css builds, or by $CSS
-    bench/second.py --write FOLDER [COUNT [SEED]]
+    tests/second.py [COUNT [SEED]]       COUNT schedules (500), replayed by the program that ./css builds, or by $CSS
+    tests/second.py --write FOLDER [COUNT [SEED]]
                                          writes the schedules, and beside each what is to be printed, to a folder
 
 The second computation keeps whole lists: what happened at the television, and what the companion did. At each line it
@@ -14,7 +14,7 @@ import random
 import subprocess
 import sys
 
-from programs import css
+from checks import css
 
 F = 256_000_000
 SECOND = 10**9
@@ -524,8 +524,10 @@ def drawn(count, seed):
 
 
 def run(program, schedule):
-    ran = subprocess.run([program, "replay"], input=schedule.encode(), capture_output=True, timeout=60)
-    return ran.stdout.decode(), ran.returncode, ran.stderr.decode()
+    """What the program prints, its exit status and its status line. A hint may follow that, and isn't looked at."""
+    ran = subprocess.run([program, "replay"], input=schedule.encode(), capture_output=True, timeout=120)
+    lines = ran.stderr.decode().splitlines(keepends=True)
+    return ran.stdout.decode(), ran.returncode, "".join(line for line in lines if not line.startswith("css: hint: "))
 
 
 def write(folder, count, seed):

@@ -1,7 +1,7 @@
 #!/usr/bin/env python3
 """Refuses each allocation of a replay in turn, one number a run, until a run meets no refusal.
 
-    bench/refusals.py [SCHEDULE]         examples/evening.schedule, where none is given; by the program that ./css
+    tests/refusals.py [SCHEDULE]         examples/evening.schedule, where none is given; by the program that ./css
                                          builds, or by $CSS
 
 Each run with a refusal must end with the status of want of memory, its line on standard error, and a front part of the
@@ -9,12 +9,14 @@ output. A small library in front of the C library's allocator does the refusing;
 """
 
 import os
+import shutil
 import subprocess
 import sys
 import tempfile
 
-from programs import HERE, css
+from checks import TOP, css
 
+COMPILER = os.environ.get("CC", "cc")
 LIBRARY = r"""
 #define _GNU_SOURCE
 #include <dlfcn.h>
@@ -66,7 +68,7 @@ def build(folder):
     source, library = os.path.join(folder, "refuse.c"), os.path.join(folder, "refuse.so")
     with open(source, "w", encoding="ascii") as out:
         out.write(LIBRARY)
-    subprocess.run([os.environ.get("CC", "cc"), "-shared", "-fPIC", "-O1", source, "-o", library, "-ldl"], check=True)
+    subprocess.run([COMPILER, "-shared", "-fPIC", "-O1", source, "-o", library, "-ldl"], check=True)
     return library
 
 
@@ -78,7 +80,7 @@ def run(program, library, schedule, number):
     def tell_at_3():
         os.dup2(writes, 3)
 
-    ran = subprocess.run([program, "replay"], input=schedule, capture_output=True, env=environment, timeout=60,
+    ran = subprocess.run([program, "replay"], input=schedule, capture_output=True, env=environment, timeout=120,
                          preexec_fn=tell_at_3, pass_fds=(3, writes))
     os.close(writes)
     with os.fdopen(reads, "rb") as told:
@@ -87,9 +89,12 @@ def run(program, library, schedule, number):
 
 
 def main():
-    path = sys.argv[1] if len(sys.argv) > 1 else os.path.join(HERE, "examples", "evening.schedule")
+    path = sys.argv[1] if len(sys.argv) > 1 else os.path.join(TOP, "examples", "evening.schedule")
     with open(path, "rb") as told:
         schedule = told.read()
+    if not shutil.which(COMPILER):
+        print(f"skipped the refusal of allocations: there is no {COMPILER}")
+        return
     program = css()
     with tempfile.TemporaryDirectory() as folder:
         library = build(folder)

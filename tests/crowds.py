@@ -1,7 +1,7 @@
 #!/usr/bin/env python3
 """Replays drawn schedules of several companions by a plain second computation, and compares it with the program `css`.
 
-    bench/crowds.py [COUNT [SEED]]       COUNT schedules (60), replayed by the program that ./css builds, or by $CSS
+    tests/crowds.py [COUNT [SEED]]       COUNT schedules (60), replayed by the program that ./css builds, or by $CSS
 
 Each schedule has 2 to 16 companions, with one sleep in a hundred lines. Answers come out of order, and some are lost.
 At least half of the reports of all schedules together must be intervals. One schedule in four ends with a line that is
@@ -12,8 +12,8 @@ program.
 import random
 import sys
 
-from programs import css
-from second import CII, F, PTS, SECOND, TS, Absent, Broken, Clock, Companion, Refused, Television, precision_ns, run
+from checks import css
+from second import CII, F, PTS, TS, Absent, Broken, Clock, Companion, Refused, Television, precision_ns, run
 
 KINDS = {"cii": CII, "ts": TS}
 

@@ -1,7 +1,7 @@
 #!/usr/bin/env python3
 """Runs the built program css to each status of a replay, and compares what it writes and the exit status.
 
-    bench/statuses.py [PROGRAM]         the program that ./css builds, where none is given
+    tests/statuses.py [PROGRAM]         the program that ./css builds, where none is given
 
 A failed read comes from a standard input that is open for writing alone, a failed write from /dev/full, and want of
 memory from a limit of the address space. A status is also told by its number where standard error takes nothing. A hint
@@ -13,7 +13,7 @@ import resource
 import subprocess
 import sys
 
-from programs import css
+from checks import css
 
 PROGRAM = css(*sys.argv[1:2])
 HEADER = b"css-schedule 1 plain 0 -30 0 0 urn:x -\n"

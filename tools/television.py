@@ -1,5 +1,5 @@
-"""A television on real sockets that does what televisions do on an evening, and whose truth is known: what its clock
-shows at each reading of this machine's, and what it said when. tests/live_watch.py is made of it."""
+"""A television whose truth is known: what its clock shows at each reading, and what it said when. A `Set` is one on
+real sockets that does what televisions do on an evening. tools/wrong_tv.py and tests/live_watch.py are made of it."""
 import json
 import random
 import socket
@@ -7,14 +7,52 @@ import struct
 import threading
 import time
 
-from live_edge import FAULTS, Listener, end_of, greet, state
-from live_peer import CLOSE, frame, nanos, stamp
-from page_tv import ERROR, SECOND, Television
+from peer import CLOSE, FAULTS, TIMELINE, Listener, end_of, frame, greet, nanos, stamp, state
 
-HOST = "127.0.0.1"
+SECOND = 10**9
+ERROR = 128_000
+RATE = {"unitsPerSecond": 90000, "unitsPerTick": 1}
+HOST, TV = "127.0.0.1", "192.168.1.20"
 PRECISION_BYTE = 0xEC  # 2^-20 s
 LONG = 1000
 UNAVAILABLE = {"contentTime": None, "timelineSpeedMultiplier": None, "wallClockTime": "0"}
+
+
+def tick_at(wall, control, rate):
+    """The tick that a control timestamp assigns to a wall clock time."""
+    rise = (wall - int(control["wallClockTime"])) * control["timelineSpeedMultiplier"] * rate["unitsPerSecond"]
+    return int(control["contentTime"]) + rise // (rate["unitsPerTick"] * SECOND)
+
+
+class Television:
+    """What is shown, and the texts that are told of it."""
+
+    def __init__(self):
+        self.begins = [(0, 1_764_403_200 * SECOND)]  # From when on the clock counts from where.
+        self.on, self.told = True, True
+        self.channel, self.control, self.rate = 1, None, RATE
+        self.show(0, 900_000, 1)
+
+    def wall(self, time):
+        begin = max(begin for begin in self.begins if begin[0] <= time)[1]
+        return begin + time + time * 37 // 10**6
+
+    def set_clock(self, time, by):
+        self.begins.append((time, self.begins[-1][1] + by))
+
+    def show(self, time, tick, speed):
+        self.control = {"contentTime": str(tick), "timelineSpeedMultiplier": speed,
+                        "wallClockTime": str(self.wall(time))}
+
+    def tick(self, time):
+        return tick_at(self.wall(time), self.control, self.rate)
+
+    def state(self):
+        timelines = [{"timelineProperties": self.rate, "timelineSelector": TIMELINE}]
+        return {"contentId": f"dvb://233a.1004.{1043 + self.channel}", "contentIdStatus": "final", "mrsUrl": None,
+                "presentationStatus": "okay", "protocolVersion": "1.1", "teUrl": None, "timelines": timelines,
+                "tsUrl": f"ws://{TV}:6678/ts" if self.told else None,
+                "wcUrl": f"udp://{TV}:6677" if self.told else None}
 
 
 class WallClock:
@@ -52,15 +90,6 @@ class WallClock:
         self.socket.close()
 
 
-def silence(listener):
-    """Ends a listener for good: nobody is left who waits for a connection."""
-    try:
-        listener.socket.shutdown(socket.SHUT_RDWR)
-    except OSError:
-        pass
-    listener.end()
-
-
 def answer_of(kind, originate, receive, transmit):
     """A datagram that answers a request. The times are nanoseconds, or bytes as they came."""
     times = [time if isinstance(time, bytes) else stamp(time) for time in (originate, receive, transmit)]
@@ -82,6 +111,7 @@ class Set(Television):
         self.controls, self.sessions, self.setups, self.sent = [], [], [], set()
         self.peers, self.sender, self.request, self.senders = {"CII": [], "TS": []}, None, None, {}
         self.listeners, self.open, self.hung_up, self.ends = [], {}, set(), []
+        self.ts_ends = []  # When it ended its sessions of CSS-TS.
         self.show(time.monotonic_ns(), 900_000, 1)
         self.controls.append((0, self.control, None))
         self.clock = WallClock(self, port)
@@ -160,6 +190,7 @@ class Set(Television):
 
     def state(self):
         told = state(self.clock.port, self.open["TS"].port)
+        told["timelines"] = [{"timelineProperties": self.rate, "timelineSelector": TIMELINE}]
         return {**told, "contentId": f'dvb://233a.1004.{1043 + self.channel} "é"', **self.instead}
 
     def serve_cii(self, peer):
@@ -207,6 +238,8 @@ class Set(Television):
         with self.lock:
             peers, self.peers[kind] = self.peers[kind], []
             self.hung_up.update(peers)
+            if kind == "TS":
+                self.ts_ends.append(time.monotonic_ns())
         for peer in peers:
             try:
                 if how == "closed":
@@ -278,10 +311,10 @@ class Set(Television):
 
     # ---- what happens to a set
 
-    def programme(self):
-        """Another programme, whose timeline begins anew."""
+    def programme(self, rate=RATE):
+        """Another programme, whose timeline begins anew and has this rate."""
         with self.lock:
-            self.channel += 1
+            self.channel, self.rate = self.channel + 1, rate
             self.go_on(self.random.randrange(1 << 40), 1)
             self.update()
 
@@ -302,11 +335,27 @@ class Set(Television):
         before = self.open["TS"]
         self.listen("TS", self.another_port())
         self.update()
-        silence(before)
+        before.end()
+
+    def leave_ts(self, later):
+        """Closes CSS-TS, and says so many seconds later where it is now. No answer comes meanwhile. How long it took,
+        in nanoseconds."""
+        before, self.mute, next_one = self.open["TS"], True, Listener(self.serve_ts, self.another_port())
+        self.listeners.append(("TS", next_one))
+        time.sleep(0.02)
+        begun = time.monotonic_ns()
+        self.hang_up("TS")
+        time.sleep(later)
+        self.open["TS"] = next_one
+        self.update()
+        took = time.monotonic_ns() - begun
+        self.mute = False
+        before.end()
+        return took
 
     def switch_off(self, how="cut"):
         for kind in ("CII", "TS"):
-            silence(self.open[kind])
+            self.open[kind].end()
         for kind in ("CII", "TS"):
             self.hang_up(kind, how)
         self.clock.end()
