@@ -119,6 +119,8 @@ def descriptors(check, program, port, most):
 
 
 def system(port, program, check):
+    # First, since the servers below keep their ports.
+    standard(port, program, check)
     file, words = running(program, port)
     first = ("/no/such/css", "/bin/true", "css")
     if len(words) > 1:
@@ -130,4 +132,3 @@ def system(port, program, check):
         *[(first_word, file, port + 2 * at, word) for at, word in enumerate(first)],
         *[(descriptors, words, port + 6 + 2 * at, most) for at, most in enumerate((4, 5, 6, 7, 8))],
     ]).tell(check)
-    standard(port, program, check)
