@@ -115,6 +115,8 @@ class Clocks:
                 self.asked.append((nanos(data[8:16]), at))
                 if at == 1:
                     self.answer(*self.last[self.home])
+        for one in self.sockets:
+            one.close()
 
     def answer(self, originate, sender):
         received = stamp(wall())

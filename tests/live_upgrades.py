@@ -212,6 +212,7 @@ def wrongly_answered(check, program, name, told, instead, words):
     child = companion(["env", "CSS_LOG=1", *program], server.port, "--seconds", "5")
     log = child.stderr.read().decode().splitlines()
     status = child.wait(20)
+    stop(child)
     server.end()
     dials = [line for line in log if line.startswith("css: log: CII dialled ")]
     check(f"{name} is told as that in the log", any(line.endswith(words) for line in dials), dials[:2])
