@@ -21,9 +21,10 @@ use Rattle.css_watch.specs.Following.{BreaksOff, CountsWrites, GoesOn, IsRun, Is
 use Rattle.css_watch.specs.Following.{IsQuiet, LeavesAll, Parts, Saw, Stage}
 use Rattle.css_watch.specs.Progress.{fresh, told_number, with_visit}
 use Rattle.css_watch.specs.Telling.{Told, told_of, text_of}
-use Rattle.css_watch.specs.Visits.{CountsNetFault, CountsWriteFault, Hangs, HoldsAll, IsFault, IsVisit, Visit, end_of}
+use Rattle.css_drive.specs.Visits.{Visit, why}
+use Rattle.css_watch.specs.Visits.{CountsNetFault, CountsWriteFault, Hangs, HoldsAll, IsFault, IsVisit, end_of}
 use Rattle.css_watch.specs.Visits.{end_text}
-use Rattle.css_watch.specs.Visits.{by_reports, fault_of, unwritten, hang_ups, last_end, told_in, visit_text, why}
+use Rattle.css_watch.specs.Visits.{by_reports, fault_of, unwritten, hang_ups, last_end, told_in, visit_text}
 use Rattle.css_watch.specs.declared.ending.Watched.{Watched}
 use Rattle.css_watch.specs.declared.ending.Watched.TheVariants as watched
 use Rattle.css_drive.specs.declared.parting.Parting.{Parting}
