@@ -6,7 +6,7 @@ use Rattle.css_model.specs.declared.Kind.TheVariants as kind
 use Rattle.css_model.specs.declared.Why.TheVariants as why
 use Rattle.css_model.specs.WallClock.{lower, upper, lo, hi, scaled_width}
 use Rattle.css_model.specs.Wire.{encoded, fault, fields, request_at, stamp_of}
-use Rattle.css_model.specs.History.{Listening, Clock, Dialling, Dialled, NoneCame, Sent, Took, TookNone, Quiet, Heard}
+use Rattle.css_model.specs.History.{Clock, Dialling, Dialled, NoneCame, Sent, Took, TookNone, Quiet, Heard}
 use Rattle.css_model.specs.History.{Each, wall_answer}
 use Rattle.css_model.specs.Explains.{RisesAt, AsksAt, IsJustAsked, IsLawful, IsTruthful, TruthfulAt, ReadsAt}
 use Rattle.css_model.specs.Explains.{HappensIn, Explains}
@@ -14,11 +14,13 @@ use Rattle.css_outside.specs.declared.calls.Heard.TheVariants as heard
 use Rattle.css_outside.specs.declared.limit.Limit.TheVariants as limit
 use Rattle.css_drive.specs.Proper.{IsProper}
 use Rattle.css_drive_relay.specs.Due.{due, IsProperRelay}
+use Rattle.css_drive_relay.specs.Ran.{nothing_begun, plan_of}
 use Rattle.css_drive_relay.specs.SecondHop.{FromRunAt}
 use Rattle.css_drive_relay.specs.declared.config.RelayRun.{RelayRun}
+use Rattle.css_drive_relay.specs.declared.plan.Plan.{Plan}
 use Rattle.css_drive_relay.proofs.SecondHop.{second_hops_are_true}
 use Rattle.css_premises.specs.Drifting.{drifting, errors, own, response}
-use Rattle.css_premises.specs.Runs.{television, wall_clock, told_text, first_turn, second_turn, given, run_history}
+use Rattle.css_premises.specs.Runs.{television, wall_clock, told_text, first_turn, second_turn, given, moment_of, run_history}
 use Rattle.css_premises.specs.Runs.{second_history, second_read, second_moment_of, accepted, HasSecondHop}
 use Rattle.css_premises.proofs.OnLiterals.{wall_clock_on_literals, states_on_literals, addresses_on_literals}
 use Rattle.css_premises.proofs.Drifting.{is_world, in_range, first_reads, second_reads}
@@ -37,64 +39,65 @@ run = record {
   requests_come = omega arith;
 }
 
+abbrev plan : Plan
+plan = plan_of run nothing_begun
+
 -- ---- each call is the one that is due
 -- the first turn
-dials : IsProperRelay run (drop 2 first_turn)
+dials : IsProperRelay plan (drop 2 first_turn)
 unfolding empty
 dials =
-    let listens : IsProper (due run) (drop 6 first_turn) =
-    IsProper.More (Listening (codes "r") 6690 ∷ []) refl IsProper.Empty in
-    let turn : IsProper (due run) (drop 5 first_turn) =
-    IsProper.More (Clock why.Turn 1499750 ∷ []) (record { reading = 1499750; slept = false }, refl) listens in
-    let dial : IsProper (due run) (drop 3 first_turn) =
+    let turn : IsProper (due plan) (drop 5 first_turn) =
+    IsProper.More (Clock why.Turn 1499750 ∷ []) (record { reading = 1499750; slept = false }, refl) IsProper.Empty in
+    let dial : IsProper (due plan) (drop 3 first_turn) =
     IsProper.More (Dialled kind.Cii 1 ∷ Dialling kind.Cii television ∷ []) (inl (1, refl)) turn in
     IsProper.More (TookNone ∷ []) ([], None, refl) dial
 
-hears : IsProperRelay run first_turn
+hears : IsProperRelay plan first_turn
 unfolding empty
 hears =
-    let none : IsProper (due run) (drop 1 first_turn) = IsProper.More (NoneCame ∷ []) (None, refl) dials in
+    let none : IsProper (due plan) (drop 1 first_turn) = IsProper.More (NoneCame ∷ []) (None, refl) dials in
     IsProper.More (Heard 1 told_text ∷ []) (heard.Text told_text, refl) none
 
 -- ---- the second turn
-asks : IsProperRelay run (drop 4 second_turn)
+asks : IsProperRelay plan (drop 4 second_turn)
 unfolding wall_clock_on_literals states_on_literals addresses_on_literals
 asks =
-    let turn : IsProper (due run) (drop 8 second_turn) =
+    let turn : IsProper (due plan) (drop 8 second_turn) =
     IsProper.More (Clock why.Turn 4498250 ∷ []) (record { reading = 4498250; slept = false }, refl) hears in
-    let dial : IsProper (due run) (drop 6 second_turn) =
+    let dial : IsProper (due plan) (drop 6 second_turn) =
     IsProper.More {older = drop 8 second_turn} (Dialled kind.Wc 2 ∷ Dialling kind.Wc wall_clock ∷ [])
     (inl (2, refl)) turn in
-    let clock : IsProper (due run) (drop 5 second_turn) =
+    let clock : IsProper (due plan) (drop 5 second_turn) =
     IsProper.More (Clock why.Ask 5997500 ∷ []) (record { reading = 5997500; slept = false }, refl) dial in
     IsProper.More (Sent 2 (encoded (request_at 5997500)) ∷ []) refl clock
 
-lands : IsProperRelay run second_turn
+lands : IsProperRelay plan second_turn
 unfolding wall_clock_on_literals states_on_literals addresses_on_literals
 lands =
     let response = encoded (response (negsuc 19) 5997500 5005501375 5006001500) in
-    let took : IsProper (due run) (drop 3 second_turn) =
+    let took : IsProper (due plan) (drop 3 second_turn) =
     IsProper.More (Took 2 response ∷ []) (response, Some (2, 32), refl) asks in
-    let land : IsProper (due run) (drop 2 second_turn) =
+    let land : IsProper (due plan) (drop 2 second_turn) =
     IsProper.More (Clock why.Land 7496750 ∷ []) (record { reading = 7496750; slept = false }, refl) took in
-    let none : IsProper (due run) (drop 1 second_turn) = IsProper.More (NoneCame ∷ []) (None, refl) land in
+    let none : IsProper (due plan) (drop 1 second_turn) = IsProper.More (NoneCame ∷ []) (None, refl) land in
     IsProper.More (Quiet 1 ∷ []) (heard.Quiet, refl) none
 
 -- ---- the third turn
-takes : IsProperRelay run (drop 2 run_history)
+takes : IsProperRelay plan (drop 2 run_history)
 unfolding wall_clock_on_literals states_on_literals addresses_on_literals
 takes =
     let request = encoded (request_at 10500850) in
-    let turn : IsProper (due run) (drop 4 run_history) =
+    let turn : IsProper (due plan) (drop 4 run_history) =
     IsProper.More (Clock why.Turn 8996000 ∷ []) (record { reading = 8996000; slept = false }, refl) lands in
-    let took : IsProper (due run) (drop 3 run_history) =
+    let took : IsProper (due plan) (drop 3 run_history) =
     IsProper.More (Took 9 request ∷ []) (request, Some (9, 32), refl) turn in
     IsProper.More (Clock why.Take 9995500 ∷ []) (record { reading = 9995500; slept = false }, refl) took
 
-answers : IsProperRelay run run_history
+answers : IsProperRelay plan run_history
 unfolding wall_clock_on_literals states_on_literals addresses_on_literals
 answers =
-    let give : IsProper (due run) (drop 1 run_history) =
+    let give : IsProper (due plan) (drop 1 run_history) =
     IsProper.More (Clock why.Give 10495250 ∷ []) (record { reading = 10495250; slept = false }, refl) takes in
     IsProper.More (Sent 9 (encoded given) ∷ []) refl give
 
@@ -103,7 +106,7 @@ abbrev asked : IsJustAsked (stamp_of 5997500) (drop 10 run_history)
 asked = record { reading = 5997500; before = drop 11 run_history; just_before = refl; same = refl }
 
 rises_first : Each RisesAt first_turn
-rises_first = (tt, (tt, (tt, (tt, (tt, (tt, (tt, tt)))))))
+rises_first = (tt, (tt, (tt, (tt, (tt, (tt, tt))))))
 
 rises_second : Each RisesAt second_turn
 rises_second = (
@@ -117,7 +120,7 @@ rises_second = (
         (
           tt,
           (
-            (tt, (tt, (tt, (tt, (tt, (tt, (tt, (tt, (tt, (tt, tt)))))))))),
+            (tt, (tt, (tt, (tt, (tt, (tt, (tt, (tt, (tt, tt))))))))),
             (tt, (tt, (tt, rises_first))),
           ),
         ),
@@ -133,7 +136,7 @@ rises = (tt, (tt, (tt, (tt, (tt, rises_second)))))
 asks_second : Each AsksAt second_turn
 unfolding encoded fault fields
 asks_second =
-    let first : Each AsksAt first_turn = (tt, (tt, (tt, (tt, (tt, (tt, (tt, tt))))))) in
+    let first : Each AsksAt first_turn = (tt, (tt, (tt, (tt, (tt, (tt, tt)))))) in
     (tt, (tt, (tt, (tt, (asked, (tt, (tt, (tt, (tt, first)))))))))
 
 asks_all : Each AsksAt run_history
@@ -144,11 +147,11 @@ lawful : IsLawful run_history
 lawful = record { rises = rises; asks = asks_all }
 
 -- the television's answer is truthful
-landed : IsTruthful drifting 64000 (λ number. number)
+landed : IsTruthful drifting 64000 moment_of
     (record { message = response (negsuc 19) 5997500 5005501375 5006001500; reading = 7496750 }) (drop 8 run_history)
 unfolding encoded fault fields
 landed = record {
-  ask = 10;
+  ask = 9;
   received_at = 11;
   transmit_at = 12;
   sent_at = 12;
@@ -165,33 +168,33 @@ landed = record {
 }
 
 -- each reading is what the relay's clock shows
-reads_first : Each (ReadsAt drifting 1 own (λ number. number)) first_turn
-reads_first = (tt, (tt, (tt, (tt, (tt, (first_reads 1 1499750 (omega arith), (tt, tt)))))))
+reads_first : Each (ReadsAt drifting 1 own moment_of) first_turn
+reads_first = (tt, (tt, (tt, (tt, (tt, (first_reads 1 1499750 (omega arith), tt))))))
 
-reads_second : Each (ReadsAt drifting 1 own (λ number. number)) second_turn
+reads_second : Each (ReadsAt drifting 1 own moment_of) second_turn
 reads_second =
     let land = first_reads 13 7496750 (omega arith) in
     let ask = first_reads 10 5997500 (omega arith) in
     let turn = first_reads 7 4498250 (omega arith) in
     (tt, (tt, (land, (tt, (tt, (ask, (tt, (tt, (turn, reads_first)))))))))
 
-reads : Each (ReadsAt drifting 1 own (λ number. number)) run_history
+reads : Each (ReadsAt drifting 1 own moment_of) run_history
 reads =
     let give = first_reads 19 10495250 (omega arith) in
     let take = first_reads 18 9995500 (omega arith) in
     let turn = first_reads 16 8996000 (omega arith) in
     (tt, (give, (take, (tt, (turn, reads_second)))))
 
-truthful_second : Each (TruthfulAt drifting 64000 own (λ number. number)) second_turn
+truthful_second : Each (TruthfulAt drifting 64000 own moment_of) second_turn
 unfolding encoded fault fields scaled_width lower upper
 truthful_second =
-    let first : Each (TruthfulAt drifting 64000 own (λ number. number)) first_turn =
-    (tt, (tt, (tt, (tt, (tt, (tt, (tt, tt))))))) in
+    let first : Each (TruthfulAt drifting 64000 own moment_of) first_turn =
+    (tt, (tt, (tt, (tt, (tt, (tt, tt)))))) in
     (tt, (tt, ((λ _. landed), (tt, (tt, (tt, (tt, (tt, (tt, first)))))))))
 
-explained : Explains drifting 1 64000 own run_history (λ number. number)
+explained : Explains drifting 1 64000 own run_history moment_of
 explained = record {
-  happens = record { in_order = λ i j h. h; reads = reads };
+  happens = record { in_order = λ i j h. omega arith; reads = reads };
   truthful = (tt, (tt, (tt, (tt, (tt, truthful_second)))));
 }
 
@@ -216,7 +219,7 @@ second_happens = record {
 }
 
 -- its answer was sent by the run
-from_run : Each (FromRunAt run_history (λ number. number) own second_moment_of) second_read
+from_run : Each (FromRunAt run_history moment_of own second_moment_of) second_read
 unfolding encoded fault fields scaled_width lower upper
 from_run = (
   tt,
@@ -265,6 +268,6 @@ has_second_hop = record {
   low_end = ends.0;
   high_end = ends.1;
   contains =
-      second_hops_are_true errors drifting 1 run run_history (λ number. number) 2 own second_read second_moment_of
+      second_hops_are_true errors drifting 1 plan run_history moment_of 2 own second_read second_moment_of
       answers (is_world 1) (is_world 2) in_range lawful explained second_lawful second_happens from_run;
 }

@@ -6,11 +6,12 @@ use Rattle.css_model.specs.declared.Why.TheVariants as why
 use Rattle.css_model.specs.WallClock.{Answer, lo, hi}
 use Rattle.css_model.specs.World.{IsWorldFor, IsInRange}
 use Rattle.css_model.specs.Wire.{encoded, request_at}
-use Rattle.css_model.specs.History.{Address, Listening, Clock, Dialling, Dialled, NoneCame, Sent, Took, TookNone}
+use Rattle.css_model.specs.History.{Address, Clock, Dialling, Dialled, NoneCame, Sent, Took, TookNone}
 use Rattle.css_model.specs.History.{Quiet, Heard, History, Each, wall_answer}
 use Rattle.css_model.specs.Explains.{IsLawful, HappensIn, Explains}
 use Rattle.css_relay.specs.TwoHops.{IsTrueAtLast}
 use Rattle.css_drive_relay.specs.Due.{IsProperRelay}
+use Rattle.css_drive_relay.specs.Ran.{nothing_begun, plan_of}
 use Rattle.css_drive_relay.specs.SecondHop.{FromRunAt}
 use Rattle.css_drive_relay.specs.declared.config.RelayRun.{RelayRun}
 use Rattle.css_premises.specs.Drifting.{drifting, errors, own, response}
@@ -26,11 +27,11 @@ abbrev pub told_text : List ℕ
 told_text = codes "{\"wcUrl\":\"udp://a:1\"}"
 
 -- ---- the relay's calls, turn by turn, the newest first
--- The relay listens. In its first turn it dials the television, and hears where the wall clock is.
+-- In its first turn the relay dials the television, and hears where the wall clock is.
 abbrev pub first_turn : History
 first_turn =
     Heard 1 told_text ∷ NoneCame ∷ TookNone ∷ Dialled kind.Cii 1 ∷ Dialling kind.Cii television
-    ∷ Clock why.Turn 1499750 ∷ Listening (codes "r") 6690
+    ∷ Clock why.Turn 1499750
     ∷ []
 
 -- In its second turn it dials the wall clock and asks it, and an answer lands.
@@ -54,6 +55,10 @@ run_history =
     ∷ Clock why.Take 9995500 ∷ Took 9 (encoded (request_at 10500850))
     ∷ Clock why.Turn 8996000
     ∷ second_turn
+
+-- when each call of the relay comes
+abbrev pub moment_of : ℕ → ℕ
+moment_of number = number + 1
 
 -- ---- the second companion
 -- It asks at moment 17, and the answer lands at moment 20.
@@ -81,20 +86,20 @@ accepted = record {
   error = 64000;
 }
 
--- All premises of second hops are met by a run with these calls, whose entries and moments have the same numbers. So
--- the second companion's spans contain the wall clock, and one of them is known.
+-- All premises of second hops are met by a first visit with these calls, each of which comes at the moment after its
+-- number. So the second companion's spans contain the wall clock, and one of them is known.
 pub record HasSecondHop : Type 0 where
   pub run : RelayRun
   pub clock : run.companion.local ≡ own
-  pub proper : IsProperRelay run run_history
+  pub proper : IsProperRelay (plan_of run nothing_begun) run_history
   pub is_world : IsWorldFor errors drifting 1 run.companion.local
   pub second_is_world : IsWorldFor errors drifting 2 own
   pub in_range : IsInRange drifting
   pub lawful : IsLawful run_history
-  pub explained : Explains drifting 1 errors.tv run.companion.local run_history (λ number. number)
+  pub explained : Explains drifting 1 errors.tv run.companion.local run_history moment_of
   pub second_lawful : IsLawful second_read
   pub second_happens : HappensIn drifting 2 own second_read second_moment_of
-  pub from_run : Each (FromRunAt run_history (λ number. number) own second_moment_of) second_read
+  pub from_run : Each (FromRunAt run_history moment_of own second_moment_of) second_read
   pub narrowest : wall_answer own second_history 12501050 ≡ Some accepted
   pub low_end : lo own accepted 12501050 ≡ pos 5009021238
   pub high_end : hi own accepted 12501050 ≡ pos 5011980645
