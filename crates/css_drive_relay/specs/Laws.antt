@@ -1,4 +1,4 @@
--- What holds of every relay's run, by its calls alone.
+-- What holds of the run of every visit of a relay, by its calls alone.
 use Rattle.std.specs.Prelude.{ℕ, ◌≡◌, List, length}
 use Rattle.css_model.specs.declared.Message.{Message}
 use Rattle.css_model.specs.Explains.{IsLawful, Explains}

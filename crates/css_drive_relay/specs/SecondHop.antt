@@ -1,4 +1,4 @@
--- The responses of a relay's whole run, and what they make true of a companion that accepts nothing else.
+-- The responses of the whole run of a relay's visit, and what they make true of a companion that accepts nothing else.
 use Rattle.std.specs.Prelude.{ℕ, ◌≡◌, ◌≤◌, ◌⊎◌, List, [], ◌∷◌, length, Option, Some, None, Ok, IfSome, IsTrue, ⊤}
 use Rattle.std.specs.Result.{result_ok}
 use Rattle.css_model.specs.declared.Message.{Message}

@@ -1,4 +1,4 @@
--- What a relay's run told an accepted session, beside what the session was to be told by what the relay published.
+-- What a visit told an accepted session, beside what the session was to be told by what the relay published.
 use Rattle.std.specs.Prelude.{◌≡◌, ◌≤◌, ℕ, ◌==◌, ◌&&◌, ◌||◌, List, [], ◌∷◌, ◌++◌, length, Bool, true, false}
 use Rattle.std.specs.Prelude.{if◌then◌else◌, Option, Some, None, option_map, unwrap_or}
 use Rattle.css_model.specs.History.{Entry, History, Accepted, Heard}

@@ -1,4 +1,4 @@
-//! What is proved of every relay's run. Each law is the contract of a function that does nothing.
+//! What is proved of the run of every visit of a relay. Each law is the contract of a function that does nothing.
 ghost use Rattle.css_drive_relay.specs.Laws.{AnswersAreTrueTo};
 ghost use Rattle.css_drive_relay.specs.Made.{TurnsAreMade};
 ghost use Rattle.css_drive_relay.specs.SecondHop.{SentIsKnown, GivenIsTrue, SecondHopsAreTrue};
@@ -22,8 +22,9 @@ pub fn sessions_are_told()
     ensures { SessionsAreTold }
 {}
 
-/// A run that is done made all its turns, and a dial of it succeeded. One for which every dial failed made all its
-/// turns too. The calls are those of a run, which ended where it may.
+/// Where a run is done that wasn't cut short, all turns were made, and a dial of CSS-CII succeeded. Where it is
+/// unreachable, all turns were made too, and no dial of CSS-CII succeeded. The turns and dials of earlier visits count.
+/// The calls are those of a run, which ended where it may.
 #[tactic(auto, using(crate::proofs::Follows::turns_are_made))]
 pub fn turns_are_made()
     ensures { TurnsAreMade }

@@ -81,8 +81,8 @@ fn is_request(bytes: &[u8]) -> bool
     }
 }
 
-/// Takes in a datagram that was just taken, and tells whether the visit goes on: an answer that contradicts those before
-/// it ends it.
+/// Takes in a datagram that was just taken, and tells whether the visit goes on. An answer that contradicts those
+/// before it ends the visit.
 fn land<O: Outside>(live: &mut Live, outside: &mut O, bytes: &[u8]) -> Result<bool, Driven>
     requires { live.old.relay.companion.client.floor ≤ (O.counts outside.old).last }
     ensures goes { (plan : Plan) (peer : ℕ) → is_some (request_in bytes.now) ≡ false
