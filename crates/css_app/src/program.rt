@@ -203,7 +203,7 @@ pub fn run<S: Source, K: Sink, O: Outside, P: Spawner, F: Listens>(
         (spawner_use P.told P.running P.faults spawner.old spawner.new)
         (followers_use F.takes F.heard followers.old followers.new) result }
 
-    // A relay: each call is the one that is due.
+    // A relay: it listens, and then makes visits, in each of which every call is the one that is due.
     ensures relay { (asked : RelayAsked) → asked_by words.now ≡ Ok (commands.Relay asked)
         → ByRelay asked (outside_use O.told O.counts outside.old outside.new) result }
 

@@ -142,7 +142,9 @@ pub record Hears (which : Session) (peer : ℕ) (said : Answer) (old new : At) :
 abbrev pub FailsHearing : Option OutFault → Session → ℕ → At → At → Driven → Type 0
 FailsHearing over which peer old new ended = Fails old.shown new.shown over ended
     ⊎ ((said : Answer) × Adds old.shown new.shown (heard_entries peer said)
-    × (new.live ≡ with_answer peer said old.live) × ((own : CompanionConfig) (history : History) → kind_of peer history ≡ Some (kind_for which) → Knows own old.companion history
+    × (new.live ≡ with_answer peer said old.live)
+    × ((own : CompanionConfig) (history : History)
+        → kind_of peer history ≡ Some (kind_for which) → Knows own old.companion history
     → IsRefusal (refusal_by which said history) ended))
 
 -- a session is asked, where it is open, and whether a text came is told

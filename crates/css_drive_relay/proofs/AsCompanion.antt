@@ -37,7 +37,8 @@ use Rattle.css_drive_relay.specs.Places.{Welcomed, published, welcomed}
 use Rattle.css_drive.specs.declared.parting.Parting.TheVariants as parting
 use Rattle.css_relay.specs.Agreeing.{Agrees}
 use Rattle.std.proofs.lemmas.List.Elements.{All-nil}
-use Rattle.css_drive_relay.specs.Standing.{Came, Comes, DialsAndAsks, HasRead, IsAt, Knows, Runs, Stands, Stops, facts_in}
+use Rattle.css_drive_relay.specs.Standing.{Came, Comes, DialsAndAsks, HasRead, IsAt, Knows, Runs, Stands, Stops}
+use Rattle.css_drive_relay.specs.Standing.{facts_in}
 use Rattle.css_drive_relay.specs.Standing.{stood}
 use Rattle.css_drive_relay.specs.declared.plan.Plan.{Plan}
 use Rattle.css_drive_relay.specs.declared.live.Live.{Live}
@@ -57,7 +58,8 @@ pub has_read : (live : Live) {own : Own} {is : Companion} {now next : Shown} {w 
 has_read live r = record { read = r; rest = refl }
 
 pub reads : (live : Live) (own : Own) (is : Companion) (now next : Shown) (w : Why) (result : Result Clocked Driven)
-    → companions.Calls now next None (λ old new. companions.HasRead old new live.own own live.relay.companion is w) result
+    → companions.Calls now next None (λ old new. companions.HasRead old new live.own own live.relay.companion is w)
+        result
     → companions.Calls now next None (λ old new. HasRead old new live (record live {
       own = own;
       relay = with_companion live.relay is;
@@ -115,7 +117,8 @@ module _ (live : Live) {plan : Plan} {start now : Shown} {history : History} {sp
   stops new {ended} e x = subst (λ (a : At). Stops plan start a.shown (with_at live a) ended) (sym e) x
 
   bad : (told : Option (Result Address AddressFault)) (ended : Driven) → GivesPlace WcUrl told (Err ended)
-      → due_at plan (facts_in live) history spot ≡ dial_to None kind.Wc WcUrl told (from_ask plan (facts_in live) history)
+      → due_at plan (facts_in live) history spot ≡ dial_to None kind.Wc WcUrl told
+          (from_ask plan (facts_in live) history)
       → Stops plan start now live ended
   bad told driven.Memory g d = steps.stops_by_memory s.runs (steps.lawful s.knows) driven.Memory refl
   bad told _ g d =
@@ -163,7 +166,8 @@ module _ (live : Live) {plan : Plan} {start now : Shown} {history : History} {sp
 
   -- ---- requests
   asking : (peer : ℕ) → live.own.wc ≡ Some peer → is_asking plan.run.ask_every live.own.turn live.own.asked ≡ true
-      → due_at plan (facts_in live) history spot ≡ from_ask plan (facts_in live) history → {mid : At} {after : Companion}
+      → due_at plan (facts_in live) history spot ≡ from_ask plan (facts_in live) history → {mid : At}
+          {after : Companion}
       → (r : Reads peer (now_at now live) mid after)
       → Runs plan start mid.shown (stood (with_at live mid) (Asking r.clocked.reading))
       (clock_entries why.Ask r.clocked ++ history)
@@ -177,7 +181,8 @@ module _ (live : Live) {plan : Plan} {start now : Shown} {history : History} {sp
       → is_asking plan.run.ask_every live.own.turn live.own.asked ≡ time
       → due_at plan (facts_in live) history spot ≡ from_ask plan (facts_in live) history → (new : At)
       (result : Result (Unit {0}) Driven) → AsksOnce None known time (now_at now live) new result
-      → MatchResult result (λ _. Comes from_take plan start new.shown (with_at live new)) (Stops plan start new.shown (with_at live new))
+      → MatchResult result (λ _. Comes from_take plan start new.shown (with_at live new))
+          (Stops plan start new.shown (with_at live new))
   goes_ask (Some peer) true e time is new (Ok done) r =
       let own = r.reads.read.only in
       let wc = ap {A = Own} (λ x. x.wc) own ∙ e in
@@ -202,7 +207,8 @@ module _ (live : Live) {plan : Plan} {start now : Shown} {history : History} {sp
       same from_take x (is ∙ ap₂ (λ (o : Option ℕ) (c : Bool). cond (is_some o && c) (Now why.Ask) TakeDatagram) e time)
   goes_ask (Some peer) false e time is new (Err ended) never = absurd never
   goes_ask None b e time is new (Ok done) x =
-      same from_take x (is ∙ ap (λ (o : Option ℕ). cond (is_some o && is_asking plan.run.ask_every live.own.turn live.own.asked)
+      same from_take x (is ∙ ap (λ (o : Option ℕ). cond
+          (is_some o && is_asking plan.run.ask_every live.own.turn live.own.asked)
       (Now why.Ask) TakeDatagram) e)
   goes_ask None b e time is new (Err ended) never = absurd never
 
@@ -219,7 +225,8 @@ all_three to every old a b cii wc new (Err ended) asks = inr (inr (a, b, cii, wc
 pub goes_calls : (live : Live) {plan : Plan} {start now : Shown} {history : History}
     → Stands plan start now live.relay (stood live Begun) history → (new : At) (result : Result (Unit {0}) Driven)
     → DialsAndAsks plan.run.cii plan.run.ask_every (now_at now live) new result
-    → MatchResult result (λ _. Comes from_take plan start new.shown (with_at live new)) (Stops plan start new.shown (with_at live new))
+    → MatchResult result (λ _. Comes from_take plan start new.shown (with_at live new))
+        (Stops plan start new.shown (with_at live new))
 goes_calls live s new (Ok done) (a, b, cii, wc, asks) =
     let x = goes_cii live s _ refl refl a (Ok tt) cii in
     let y = goes_wc (with_at live a) x.2 _ _ refl refl x.3 b (Ok tt) wc in
@@ -327,7 +334,8 @@ module _ (live : Live) {plan : Plan} {start now : Shown} {history : History}
       (
         Closed p ∷ history,
         record {
-          runs = subst (λ own. Runs plan start new.shown (over own) (Closed p ∷ history)) (sym h.live) (closed h.called);
+          runs = subst (λ own. Runs plan start new.shown (over own) (Closed p ∷ history)) (sym h.live)
+              (closed h.called);
           knows = knows answer.Closed h (λ a. a);
         },
       ),

@@ -146,7 +146,8 @@ Follows plan f place (HungUp peer) = (waiting place ≡ []) × IsDropped place
 Follows plan f place _ = (waiting place ≡ []) × IsRest place
 
 abbrev pub Followed : Plan → History → Type 0
-Followed plan h = Each (λ entry older. Follows plan (progress_of plan older).facts (progress_of plan older).place entry) h
+Followed plan h =
+    Each (λ entry older. Follows plan (progress_of plan older).facts (progress_of plan older).place entry) h
 
 module _ (plan : Plan) (older : History) (each : Followed plan older) where
   abbrev After : History → Type 0
@@ -161,7 +162,8 @@ pub followed : (plan : Plan) (h : History) → IsProperRelay plan h → Followed
 followed plan [] Empty = tt
 followed plan h (More {older} call may proper) =
     let p : Progress = progress_of plan older in
-    added plan older (followed plan older proper) (due_at plan p.facts older p.place) (fits plan p.facts older p.place) call
+    added plan older (followed plan older proper) (due_at plan p.facts older p.place) (fits plan p.facts older p.place)
+        call
     may
 
 -- ---- places to which entries lead

@@ -14,7 +14,8 @@ use Rattle.css_drive.specs.declared.driven.Driven.{Driven}
 use Rattle.css_drive.specs.declared.driven.Driven.TheVariants as driven
 use Rattle.css_drive.specs.declared.parting.Parting.TheVariants as parting
 use Rattle.css_drive_relay.specs.Places.{Facts, Served, Taken, landed, landed_at}
-use Rattle.css_drive_relay.specs.Standing.{HasRead, IsAt, Knows, Runs, Stands, Stops, facts_in, goes_on_at, placed, stood}
+use Rattle.css_drive_relay.specs.Standing.{HasRead, IsAt, Knows, Runs, Stands, Stops, facts_in, goes_on_at, placed}
+use Rattle.css_drive_relay.specs.Standing.{stood}
 use Rattle.css_drive_relay.specs.declared.live.Live.{Live}
 use Rattle.css_drive_relay.specs.declared.plan.Plan.{Plan}
 use Rattle.css_drive_relay.proofs.Steps as steps
@@ -43,7 +44,8 @@ nothing_asked own h reading bytes answers = by (decoded bytes)
         (cond b (Err landings.NotAnAnswer) (Err landings.Unasked))) answers ≡ false) [ true ↦ refl | false ↦ refl ]
 
 module _ {plan : Plan} {start now mid : Shown} {live later : Live} {history : History} {peer : ℕ} {bytes : List ℕ}
-    {clocked : Clocked} (s : Stands plan start now live.relay (stood live (Taken peer bytes)) (Took peer bytes ∷ history))
+    {clocked : Clocked} (s : Stands plan start now live.relay (stood live (Taken peer bytes))
+        (Took peer bytes ∷ history))
     (none : is_some (request_in bytes) ≡ false) (r : HasRead now mid live later why.Land clocked) where
   abbrev own : Local
   own = plan.run.companion.local
@@ -53,7 +55,8 @@ module _ {plan : Plan} {start now mid : Shown} {live later : Live} {history : Hi
   calls slept = Clock why.Land clocked.reading ∷ sleep_entries slept ++ (Took peer bytes ∷ history)
 
   abbrev RunsTo : Bool → Type 0
-  RunsTo slept = Runs plan start mid (landed_at plan clocked.reading (sleep_entries slept ++ (Took peer bytes ∷ history))
+  RunsTo slept = Runs plan start mid (landed_at plan clocked.reading
+      (sleep_entries slept ++ (Took peer bytes ∷ history))
       (Taken peer bytes) (facts_in later)) (calls slept)
 
   runs : RunsTo clocked.slept

@@ -1,6 +1,7 @@
 -- How hang-ups come to the end of a visit, and visits to what a relay comes to.
 use Rattle.std.proofs.Common.{◌≡◌, ◌∙◌, ◌≤◌, ◌+◌, ap, sym, subst, refl, arith, ℕ, suc, add-one, List, [], ◌∷◌, ◌++◌}
-use Rattle.std.proofs.Common.{append-nil, append_assoc, Bool, true, false, Option, Some, None, Result, Ok, Err, inl, inr}
+use Rattle.std.proofs.Common.{append-nil, append_assoc, Bool, true, false, Option, Some, None, Result, Ok, Err, inl}
+use Rattle.std.proofs.Common.{inr}
 use Rattle.std.specs.Prelude.{◌⊎◌, ◌||◌, is_some, MatchResult}
 use Rattle.std.specs.Result.{IsErrAnd}
 use Rattle.css_model.specs.History.{History, HungUp, Listening}
@@ -88,7 +89,8 @@ module _ {old now : Shown} {wanted : History} where
       → Hangs old now (hung None ++ wanted) result
   no_television h = h
 
-  pub television_hung : {next : Shown} {peer : ℕ} (result : Result (Unit {0}) Driven) → Hangs old now wanted (Ok (tt {0}))
+  pub television_hung : {next : Shown} {peer : ℕ} (result : Result (Unit {0}) Driven) → Hangs old now wanted
+      (Ok (tt {0}))
       → MatchResult result (λ _. Adds now next (HungUp peer ∷ [])) (Fails now next None)
       → Hangs old next (hung (Some peer) ++ wanted) result
   television_hung {next} {peer} (Ok done) h a = record {
@@ -341,9 +343,11 @@ tries plan before now later live ended (visited.Next next) same begins ends (inl
     absurd (ends fault)
 tries plan before now later live ended (visited.Next next) same begins ends (inr tried) unreached =
     tried_next plan before now later live next begins same tried
-tries plan before now later live ended (visited.Over (driven.Unreachable turns)) same begins ends (inl fault) unreached =
+tries plan before now later live ended (visited.Over (driven.Unreachable turns)) same begins ends
+    (inl fault) unreached =
     absurd (subst IsFault ends fault)
-tries plan before now later live ended (visited.Over (driven.Unreachable turns)) same begins ends (inr tried) unreached =
+tries plan before now later live ended (visited.Over (driven.Unreachable turns)) same begins ends
+    (inr tried) unreached =
     let x = unreached turns ends in
     subst (λ (n : ℕ). HasRisen before.dial_faults n) (sym same) (tried x.0 x.1 x.2)
 tries plan before now later live ended (visited.Over last) same begins ends tried unreached = tt
@@ -359,7 +363,8 @@ pub last_dials : (before now : Counts) (ended : Driven) → before.dial_faults �
 last_dials before now ended le tries = grind (arith, le, tries)
 
 -- a relay that listened has made its visits
-pub stayed : {run : RelayRun} (start mid now : Shown) {ended : Driven} → mid.told ≡ with_entries (Listening run.host run.port ∷ []) start.told → Stays run mid now ended
+pub stayed : {run : RelayRun} (start mid now : Shown) {ended : Driven}
+    → mid.told ≡ with_entries (Listening run.host run.port ∷ []) start.told → Stays run mid now ended
     → HasStayed run start.told now.told ended
 stayed {run} start mid now listened s = record {
   visits = s.visits;

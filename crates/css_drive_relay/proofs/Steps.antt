@@ -15,7 +15,8 @@ use Rattle.css_model.specs.History.{Closed, Gone, Heard, Sent, request_in, NoneC
 use Rattle.css_companion.specs.Meanings.{kind_of, opens_ts, is_cii, is_ts, state_of}
 use Rattle.css_drive.specs.TvRan.{AreBelow, AreNumbered}
 use Rattle.css_drive_relay.specs.Places.{Facts, Progress, next_asked, telling, telling_if, without, Place, after}
-use Rattle.css_drive_relay.specs.Places.{progress_of, Begun, Called, Refused, after_dial, after_clock, Asked, landed, landed_at}
+use Rattle.css_drive_relay.specs.Places.{progress_of, Begun, Called, Refused, after_dial, after_clock, Asked, landed}
+use Rattle.css_drive_relay.specs.Places.{landed_at}
 use Rattle.css_drive_relay.specs.Places.{beginning, with_turn, Taken, Received, Served}
 use Rattle.css_drive_relay.specs.Places.{received, answering, Welcomed, welcomed, published, television_told, is_kept}
 use Rattle.css_drive_relay.specs.Places.{opened_if, Asking}
@@ -173,7 +174,8 @@ module _ {plan : Plan} {relay : Relay} {history : History} (k : Knows plan relay
         (sym (counts_aside plan.run.companion.local history entry is)) k.agrees;
   }
     where
-      by : (entry : Entry) → IsAside history entry → companions.Knows plan.run.companion relay.companion (entry ∷ history)
+      by : (entry : Entry) → IsAside history entry → companions.Knows plan.run.companion relay.companion
+          (entry ∷ history)
       by Slept is = absurd is
       by (Clock why.Ask reading) is = absurd is
       by (Clock why.Land reading) is = absurd is
@@ -570,7 +572,8 @@ begun {plan} {live = live} {later} {history} {f} {clocked = clocked} s on r e la
     (stands_read s
     (ap (λ b. cond b (Now why.Turn) (Ends (final plan (facts_in live)))) on) tt r
     _ refl (unnamed history (places.begun plan (with_turn clocked.reading (facts_in later)))
-    (cond_both (is_late plan.run.limit (Some (unwrap_or later.own.first clocked.reading)) (Some clocked.reading)) (Asked [])
+    (cond_both (is_late plan.run.limit (Some (unwrap_or later.own.first clocked.reading)) (Some clocked.reading))
+        (Asked [])
     Begun (λ at. named at ≡ []) (λ _. refl) (λ _. refl))))) _
     (ap {B = Progress} (λ b. record { facts = f; place = cond b (Asked []) Begun }) (sym late ∙ is))
 
@@ -615,7 +618,8 @@ module _ {plan : Plan} {start now mid : Shown} {live later : Live} {history : Hi
 
 -- ---- sessions that others open
 module _ (live : Live) {plan : Plan} {start now next : Shown} {history : History} {relay : Relay}
-    (s : Stands plan start now relay (stood live Served) history) (faults : next.counts.faults ≡ now.counts.faults) where
+    (s : Stands plan start now relay (stood live Served) history) (faults : next.counts.faults ≡ now.counts.faults)
+        where
   pub none_came : next.told ≡ with_entries (NoneCame ∷ []) now.told → next.counts.peers ≡ now.counts.peers
       → Stands plan start next relay (stood live (welcomed (facts_in live))) (NoneCame ∷ history)
   none_came told same = record {

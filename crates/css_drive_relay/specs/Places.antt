@@ -60,9 +60,9 @@ pub data Place : Type 0 where
   Dropping : (peer : ℕ) → (left : List ℕ) → Place
 
 -- How many turns were begun, and the readings of the first and the last one, those of earlier visits among them; the
--- reading of the turn of the last request since the last sleep; the peers that were dialled, and the television's session
--- of CSS-CII where it is open; the state that the accepted sessions were told last; these sessions, in the order in which
--- they came; and why the visit was cut short, if it was.
+-- reading of the turn of the last request since the last sleep; the peers that were dialled, and the television's
+-- session of CSS-CII where it is open; the state that the accepted sessions were told last; these sessions, in the
+-- order in which they came; and why the visit was cut short, if it was.
 pub record Facts : Type 0 where
   pub turns : ℕ
   pub first : Option ℕ

@@ -7,7 +7,8 @@ use Rattle.css_outside.specs.Outsides.{Counts, with_entries}
 use Rattle.css_drive.specs.CompanionStanding.{IsFault, hung}
 use Rattle.css_drive.specs.TvRan.{AreNumbered}
 use Rattle.css_drive.specs.Ends.{MayEnd, CountsNetFault, CountsDialFaults}
-use Rattle.css_drive.specs.Visits.{AreFollowed, Visit, Visiting, begun_after, entries_of, last_entries, most_visits, why}
+use Rattle.css_drive.specs.Visits.{AreFollowed, Visit, Visiting, begun_after, entries_of, last_entries, most_visits}
+use Rattle.css_drive.specs.Visits.{why}
 use Rattle.css_drive.specs.declared.driven.Driven.{Driven}
 use Rattle.css_drive.specs.declared.driven.Driven.TheVariants as driven
 use Rattle.css_drive_relay.specs.Due.{due, IsProperRelay}

@@ -20,7 +20,8 @@ use Rattle.css_drive_relay.specs.declared.config.RelayRun.{RelayRun}
 use Rattle.css_drive_relay.specs.declared.plan.Plan.{Plan}
 use Rattle.css_drive_relay.proofs.SecondHop.{second_hops_are_true}
 use Rattle.css_premises.specs.Drifting.{drifting, errors, own, response}
-use Rattle.css_premises.specs.Runs.{television, wall_clock, told_text, first_turn, second_turn, given, moment_of, run_history}
+use Rattle.css_premises.specs.Runs.{television, wall_clock, told_text, first_turn, second_turn, given, moment_of}
+use Rattle.css_premises.specs.Runs.{run_history}
 use Rattle.css_premises.specs.Runs.{second_history, second_read, second_moment_of, accepted, HasSecondHop}
 use Rattle.css_premises.proofs.OnLiterals.{wall_clock_on_literals, states_on_literals, addresses_on_literals}
 use Rattle.css_premises.proofs.Drifting.{is_world, in_range, first_reads, second_reads}

@@ -1,5 +1,6 @@
 -- How a relay's agreement goes on.
-use Rattle.std.proofs.Common.{◌≡◌, ◌∙◌, sym, subst, refl, ℕ, List, [], ◌∷◌, Bool, true, false, cond, Result, Ok, Err, inl, inr}
+use Rattle.std.proofs.Common.{◌≡◌, ◌∙◌, sym, subst, refl, ℕ, List, [], ◌∷◌, Bool, true, false, cond, Result, Ok, Err}
+use Rattle.std.proofs.Common.{inl, inr}
 use Rattle.std.proofs.Common.{arith, ap, suc}
 use Rattle.std.specs.Prelude.{◌⊎◌, int_lt, pos}
 use Rattle.css_agree.specs.Disagreements.{IsPossibleAt, disagree}

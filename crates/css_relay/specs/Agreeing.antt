@@ -13,8 +13,8 @@ pub record Holds (own : Local) (agree : Kept) (answers : Answers) : Type 0 where
   pub local : agree.local ≡ own
   pub stands : StandsFor agree answers
 
--- An agreement is that of these answers, by the relay's own clock. Where there is none of them, what it keeps counts for
--- nothing.
+-- An agreement is that of these answers, by the relay's own clock. Where there is none of them, what it keeps counts
+-- for nothing.
 pub record IsAgreementOf (own : Local) (agree : Kept) (answers : Answers) : Type 0 where
   pub local : agree.local ≡ own
   pub stands : (answers ≡ []) ⊎ StandsFor agree answers

@@ -14,7 +14,8 @@ use Rattle.css_drive.specs.CompanionReports.{KeepsPromises}
 use Rattle.css_drive.specs.CompanionStanding.{hung}
 use Rattle.css_drive.specs.Ends.{MayEnd}
 use Rattle.css_drive.specs.Notes.{noted}
-use Rattle.css_drive.specs.Visits.{AreFollowed, Visit, Visiting, begun_after, entries_of, last_entries, most_visits, why}
+use Rattle.css_drive.specs.Visits.{AreFollowed, Visit, Visiting, begun_after, entries_of, last_entries, most_visits}
+use Rattle.css_drive.specs.Visits.{why}
 use Rattle.css_drive.specs.declared.driven.Driven.{Driven}
 use Rattle.css_drive.specs.declared.driven.Driven.TheVariants as driven
 use Rattle.css_watch_lines.specs.Lines.{line_text, Ended}
@@ -153,7 +154,8 @@ pub record Watches (plan : Plan) (before now : Option History) (held holds : Opt
   pub last : Option Visit
   pub is_end : IsEnd plan visits last result
   pub told : now ≡ with_entries (last_entries last ++ entries_of visits) before
-  pub wrote : HoldsAll held holds (written plan visits ++ last_text plan (begun_after (visits_of plan) visits) last) result
+  pub wrote : HoldsAll held holds (written plan visits ++ last_text plan (begun_after (visits_of plan) visits) last)
+      result
 
 -- ---- counts
 abbrev pub CountsNetFault : ℕ → ℕ → Watched → Type 0
