@@ -144,7 +144,7 @@ FailsHearing over which peer old new ended = Fails old.shown new.shown over ende
     ⊎ ((said : Answer) × Adds old.shown new.shown (heard_entries peer said)
     × (new.live ≡ with_answer peer said old.live)
     × ((own : CompanionConfig) (history : History)
-        → kind_of peer history ≡ Some (kind_for which) → Knows own old.companion history
+    → kind_of peer history ≡ Some (kind_for which) → Knows own old.companion history
     → IsRefusal (refusal_by which said history) ended))
 
 -- a session is asked, where it is open, and whether a text came is told

@@ -59,7 +59,7 @@ has_read live r = record { read = r; rest = refl }
 
 pub reads : (live : Live) (own : Own) (is : Companion) (now next : Shown) (w : Why) (result : Result Clocked Driven)
     → companions.Calls now next None (λ old new. companions.HasRead old new live.own own live.relay.companion is w)
-        result
+    result
     → companions.Calls now next None (λ old new. HasRead old new live (record live {
       own = own;
       relay = with_companion live.relay is;
@@ -118,7 +118,7 @@ module _ (live : Live) {plan : Plan} {start now : Shown} {history : History} {sp
 
   bad : (told : Option (Result Address AddressFault)) (ended : Driven) → GivesPlace WcUrl told (Err ended)
       → due_at plan (facts_in live) history spot ≡ dial_to None kind.Wc WcUrl told
-          (from_ask plan (facts_in live) history)
+      (from_ask plan (facts_in live) history)
       → Stops plan start now live ended
   bad told driven.Memory g d = steps.stops_by_memory s.runs (steps.lawful s.knows) driven.Memory refl
   bad told _ g d =
@@ -167,7 +167,7 @@ module _ (live : Live) {plan : Plan} {start now : Shown} {history : History} {sp
   -- ---- requests
   asking : (peer : ℕ) → live.own.wc ≡ Some peer → is_asking plan.run.ask_every live.own.turn live.own.asked ≡ true
       → due_at plan (facts_in live) history spot ≡ from_ask plan (facts_in live) history → {mid : At}
-          {after : Companion}
+      {after : Companion}
       → (r : Reads peer (now_at now live) mid after)
       → Runs plan start mid.shown (stood (with_at live mid) (Asking r.clocked.reading))
       (clock_entries why.Ask r.clocked ++ history)
@@ -182,7 +182,7 @@ module _ (live : Live) {plan : Plan} {start now : Shown} {history : History} {sp
       → due_at plan (facts_in live) history spot ≡ from_ask plan (facts_in live) history → (new : At)
       (result : Result (Unit {0}) Driven) → AsksOnce None known time (now_at now live) new result
       → MatchResult result (λ _. Comes from_take plan start new.shown (with_at live new))
-          (Stops plan start new.shown (with_at live new))
+      (Stops plan start new.shown (with_at live new))
   goes_ask (Some peer) true e time is new (Ok done) r =
       let own = r.reads.read.only in
       let wc = ap {A = Own} (λ x. x.wc) own ∙ e in
@@ -208,7 +208,7 @@ module _ (live : Live) {plan : Plan} {start now : Shown} {history : History} {sp
   goes_ask (Some peer) false e time is new (Err ended) never = absurd never
   goes_ask None b e time is new (Ok done) x =
       same from_take x (is ∙ ap (λ (o : Option ℕ). cond
-          (is_some o && is_asking plan.run.ask_every live.own.turn live.own.asked)
+      (is_some o && is_asking plan.run.ask_every live.own.turn live.own.asked)
       (Now why.Ask) TakeDatagram) e)
   goes_ask None b e time is new (Err ended) never = absurd never
 
@@ -226,7 +226,7 @@ pub goes_calls : (live : Live) {plan : Plan} {start now : Shown} {history : Hist
     → Stands plan start now live.relay (stood live Begun) history → (new : At) (result : Result (Unit {0}) Driven)
     → DialsAndAsks plan.run.cii plan.run.ask_every (now_at now live) new result
     → MatchResult result (λ _. Comes from_take plan start new.shown (with_at live new))
-        (Stops plan start new.shown (with_at live new))
+    (Stops plan start new.shown (with_at live new))
 goes_calls live s new (Ok done) (a, b, cii, wc, asks) =
     let x = goes_cii live s _ refl refl a (Ok tt) cii in
     let y = goes_wc (with_at live a) x.2 _ _ refl refl x.3 b (Ok tt) wc in

@@ -163,7 +163,7 @@ followed plan [] Empty = tt
 followed plan h (More {older} call may proper) =
     let p : Progress = progress_of plan older in
     added plan older (followed plan older proper) (due_at plan p.facts older p.place) (fits plan p.facts older p.place)
-        call
+    call
     may
 
 -- ---- places to which entries lead

@@ -45,7 +45,7 @@ nothing_asked own h reading bytes answers = by (decoded bytes)
 
 module _ {plan : Plan} {start now mid : Shown} {live later : Live} {history : History} {peer : ℕ} {bytes : List ℕ}
     {clocked : Clocked} (s : Stands plan start now live.relay (stood live (Taken peer bytes))
-        (Took peer bytes ∷ history))
+    (Took peer bytes ∷ history))
     (none : is_some (request_in bytes) ≡ false) (r : HasRead now mid live later why.Land clocked) where
   abbrev own : Local
   own = plan.run.companion.local

@@ -107,14 +107,14 @@ says plan (Clock why.Take reading ∷ older) =
     on_received (Says plan.run.companion.local (Clock why.Take reading ∷ older)) plan reading older
     (progress_of plan older).place
     (λ _. says_later plan.run.companion.local older (Clock why.Take reading) (progress_of plan older).place
-        (says plan older))
+    (says plan older))
     tt
     (λ peer bytes ticket e. (bytes, reading, older, inl (refl, refl), e))
 says plan (Clock why.Give reading ∷ older) =
     on_answered (Says plan.run.companion.local (Clock why.Give reading ∷ older)) plan reading older
     (progress_of plan older).place
     (λ _. says_later plan.run.companion.local older (Clock why.Give reading) (progress_of plan older).place
-        (says plan older))
+    (says plan older))
     tt
     (λ peer ticket message at e. record {
       message = message;
@@ -133,7 +133,7 @@ answers_are_true plan history peer bytes e =
       answers = is;
       is_true = λ errors world who moment_of keeps range lawful explains.
           let x = two.answers_are_true errors world who plan.run.companion.local history moment_of is.message keeps
-              range
+          range
           lawful explains is.answer in
           (x, two.true_is_truthful world errors.tv _ _ is.message x);
     }
@@ -263,11 +263,11 @@ found plan (entry ∷ older) each message before (inr later) =
 pub given_is_true : GivenIsTrue
 given_is_true errors world who plan history moment_of message before proper for range lawful explains given =
     let x : IsFound plan.run.companion.local history message before = found plan history (followed plan history proper)
-        message
+    message
     before given in
     let is : IsTrueResponse world errors.tv (moment_of (last_take before)) (moment_of (length before)) message =
     rw (x.at_take, x.at_give) at (two.answers_are_true errors world who plan.run.companion.local history moment_of
-        message
+    message
     for range lawful explains x.answer) in
     record { response = is; truthful = two.true_is_truthful world errors.tv _ _ message is }
 
@@ -316,7 +316,7 @@ module _ (errors : Errors) (world : World) (who : ℕ) (plan : Plan) (history : 
       found plan history (followed plan history proper) message x.before sent.1 in
       let is : IsTrueAnswer world errors.tv moment_of x.before message =
       given_is_true errors world who plan history moment_of message x.before proper keeps range lawful explains sent.1
-          in
+      in
       let same : without_originate message ≡ without_originate landed.message =
       reads_back plan.run.companion.local found.answer.before_take found.answer.before_give found.answer.take
       found.answer.give found.answer.request found.answer.ticket message landed.message found.answer.received

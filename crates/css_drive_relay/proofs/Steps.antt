@@ -573,7 +573,7 @@ begun {plan} {live = live} {later} {history} {f} {clocked = clocked} s on r e la
     (ap (λ b. cond b (Now why.Turn) (Ends (final plan (facts_in live)))) on) tt r
     _ refl (unnamed history (places.begun plan (with_turn clocked.reading (facts_in later)))
     (cond_both (is_late plan.run.limit (Some (unwrap_or later.own.first clocked.reading)) (Some clocked.reading))
-        (Asked [])
+    (Asked [])
     Begun (λ at. named at ≡ []) (λ _. refl) (λ _. refl))))) _
     (ap {B = Progress} (λ b. record { facts = f; place = cond b (Asked []) Begun }) (sym late ∙ is))
 
@@ -618,8 +618,8 @@ module _ {plan : Plan} {start now mid : Shown} {live later : Live} {history : Hi
 
 -- ---- sessions that others open
 module _ (live : Live) {plan : Plan} {start now next : Shown} {history : History} {relay : Relay}
-    (s : Stands plan start now relay (stood live Served) history) (faults : next.counts.faults ≡ now.counts.faults)
-        where
+    (s : Stands plan start now relay (stood live Served) history)
+    (faults : next.counts.faults ≡ now.counts.faults) where
   pub none_came : next.told ≡ with_entries (NoneCame ∷ []) now.told → next.counts.peers ≡ now.counts.peers
       → Stands plan start next relay (stood live (welcomed (facts_in live))) (NoneCame ∷ history)
   none_came told same = record {

@@ -291,7 +291,7 @@ IsPassed _ = ⊤
 
 after_passed : (plan : Plan) (older : History) (entry : Entry) → IsPassed entry → (f : Facts) (place : Place)
     → Follows plan f place entry → let q : Progress = places.after plan entry older
-        (record { facts = f; place = place }) in
+    (record { facts = f; place = place }) in
     (waiting place ≡ []) × (q.facts.peers ≡ f.peers) × (q.facts.state ≡ f.state) × (waiting q.place ≡ [])
 after_passed plan older entry is f place c = grind (arith, is, c)
 

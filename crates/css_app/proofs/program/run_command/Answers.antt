@@ -78,7 +78,7 @@ returns-in-Relay-clause-counted g c =
     let made = c.drive_relay.ensures.counted in
     rw c.status_of.ensures.value
     (driven_tells c.drive_relay.result (unwritten c.drive_relay.result _ (relay_writes made.kind)) made.faults
-        made.dials)
+    made.dials)
 
 pub returns-in-Watch-clause-counted : goal.returns-in-Watch-clause-counted
 returns-in-Watch-clause-counted g c = c.watch_television.ensures.counted _ _

@@ -16,7 +16,7 @@ returns-in-Ok-clause-ran g c =
 pub returns-in-Err-clause-counted : goal.returns-in-Err-clause-counted
 returns-in-Err-clause-counted g c =
     let so = c.end_of.ensures.failed (shown (g.O.Outside.told c.args.outside.now)
-        (g.O.Outside.counts c.args.outside.now))
+    (g.O.Outside.counts c.args.outside.now))
     (shown (g.O.Outside.told c.listen.new.self) (g.O.Outside.counts c.listen.new.self)) _ refl c.in-Err.ensures.told
     c.in-Err.ensures.counted.faults (ap (λ x. x.dial_faults) c.in-Err.ensures.counted.same) in
     record {

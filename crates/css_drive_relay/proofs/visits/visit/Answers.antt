@@ -19,5 +19,5 @@ returns-clause-tried g c before le tried =
     c.after.ensures.dials c.after.ensures.begun c.after.ensures.ends
     (c.make_turns-ended.ensures.tried before le
     (staying.tries_first c.args.plan.now before (g.O.Outside.counts c.args.outside.now) c.in-Ok.live
-        (ap {A = Facts} (λ f. f.turns) c.in-Ok.ensures.facts)
+    (ap {A = Facts} (λ f. f.turns) c.in-Ok.ensures.facts)
     tried)) c.make_turns-ended.ensures.unreachable

@@ -12,7 +12,7 @@ returns-clause-goes g c config is before started h s k d =
     let p : ℕ = c.in-Some.peer in
     let call = rw c.in-Some.is at c.in_ok-peer.ensures in
     comes (stands_tried s kind.Cii c.args.to.now (calls.cii_due s d c.in-None.is ∙ ap (Dial kind.Cii) is) (Some p)
-        call.told
+    call.told
     (call.saw (standpoint _ (_ ∷ h)) started _ s.saw_so)
     (ap {A = Live} (λ x. record x { cii = Some p; cii_open = Some p }) s.facts))
     (calls.knows_tried kind.Cii c.args.to.now (Some p) refl k) _ refl
