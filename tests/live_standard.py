@@ -224,7 +224,7 @@ def standard(port, program, check):
     if first := first_program():
         calls.append((closed, [first], "css_first", [], evening, (4, 5, 0)))
     else:
-        print("skipped css_first: it wasn't built", flush=True)
+        check.skip("css_first", "it wasn't built")
     many = ["--turns", "1000000"]
     calls += [
         (numbers, program, "tv", ["output", "error"], ["tv", at, str(port + 8), *many], port + 8),

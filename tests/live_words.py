@@ -215,12 +215,20 @@ def companions(check, program, port):
 
 
 def relays(check, program, port):
-    """What a relay says where its television moves is for somebody who runs a relay."""
+    """A relay whose television moves its wall clock goes on, and what it says is for somebody who runs a relay."""
+    sessions = []
+
+    def serve(peer):
+        sessions.append(peer)
+        tell(peer)
+
     old = f"udp://127.0.0.1:{closed_port()}"
-    server = Listener(teller({**state(), "wcUrl": old}, {**state(), "wcUrl": "udp://127.0.0.1:9"}))
+    tell = teller({**state(), "wcUrl": old}, {**state(), "wcUrl": "udp://127.0.0.1:9"})
+    server = Listener(serve)
     url = f"ws://127.0.0.1:{server.port}/cii"
-    told = told_by(start(program, ["relay", "--cii", url, "--port", str(port), "--seconds", "3"]))
-    check("a relay says nothing of a companion", not any("companion" in line for line in told[1]), told)
+    told = told_by(start(program, ["relay", "--cii", url, "--port", str(port), "--seconds", "5"]))
+    check("a relay goes on where its television moves", told == (0, [], "") and len(sessions) > 1,
+          (told, len(sessions)))
     server.end()
 
 
