@@ -1,9 +1,8 @@
 -- How large the numbers of a course become.
-use Rattle.std.proofs.Common.{◌≡◌, ℕ, suc, zero, ◌*◌, ◌≤◌, arith, refl, Bool, true, false}
-use Rattle.std.specs.Prelude.{◌==◌, nat_lt, min, if◌then◌else◌}
-use Rattle.std.proofs.lemmas.Bool.{eqb-false}
+use Rattle.std.proofs.Common.{ℕ, suc, zero, ◌*◌, ◌≤◌, arith}
+use Rattle.std.proofs.lemmas.Bool.Decides.{nat_tests}
 use Rattle.css_gen.specs.Draws.{draw}
-use Rattle.css_gen.specs.Course.{asked, taken, taken_back, given, given_next, landed, landed_back, printed, chosen}
+use Rattle.css_gen.specs.Course.{chosen}
 use Rattle.css_gen.specs.Course.{started, later, happening, course_after}
 use Rattle.css_gen.specs.Bounds.{IsWithin, IsSmall}
 use Rattle.css_gen.specs.declared.course.Course.{Course}
@@ -16,60 +15,20 @@ pub record IsGrown (lines : ℕ) (course : Course) : Type 0 where
   pub takes : course.takes ≤ lines
   pub answers : course.answers ≤ course.takes
 
-pub asked-within : (lines : ℕ) (course : Course) → IsGrown lines course → IsWithin (suc lines) (asked course).course
-asked-within lines course h =
-    record { time = h.time; requests = omega arith; takes = omega arith; answers = h.answers }
-
-taken-within : (lines : ℕ) (course : Course) → IsGrown lines course → IsWithin (suc lines) (taken course).course
-taken-within lines course h = by (course.requests == 0)
-  where
-    by : (b : Bool)
-        → IsWithin (suc lines)
-        (if b then asked course else taken_back course (draw (min course.requests 4) course.words)).course
-    by true = asked-within lines course h
-    by false = record { time = h.time; requests = omega arith; takes = omega arith; answers = omega arith }
-
-given-within : (lines : ℕ) (course : Course) → IsGrown lines course → IsWithin (suc lines) (given course).course
-given-within lines course h = by (course.answers == course.takes) refl
-  where
-    by : (b : Bool) → (course.answers == course.takes) ≡ b
-        → IsWithin (suc lines) (if b then asked course else given_next course).course
-    by true e = asked-within lines course h
-    by false e =
-        let apart = eqb-false course.answers course.takes e in
-        record { time = h.time; requests = omega arith; takes = omega arith; answers = omega arith }
-
-landed-within : (lines : ℕ) (course : Course) → IsGrown lines course → IsWithin (suc lines) (landed course).course
-landed-within lines course h = by (course.answers == 0)
-  where
-    by : (b : Bool)
-        → IsWithin (suc lines)
-        (if b then asked course else landed_back course (draw (min (2 * course.answers) 8) course.words)).course
-    by true = asked-within lines course h
-    by false = record { time = h.time; requests = omega arith; takes = omega arith; answers = h.answers }
-
-pub printed-within : (lines : ℕ) (course : Course) → IsGrown lines course → IsWithin (suc lines) (printed course).course
-printed-within lines course h =
-    record { time = h.time; requests = omega arith; takes = omega arith; answers = h.answers }
-
 pub chosen-within : (choice lines : ℕ) (course : Course) → IsGrown lines course
     → IsWithin (suc lines) (chosen choice course).course
 unfolding chosen
 chosen-within choice lines course h =
-    by (nat_lt choice 2) (choice == 2) (choice == 3) (nat_lt choice 6)
-  where
-    by : (a b c d : Bool)
-        → IsWithin (suc lines)
-        (if a then asked course
-        else if b then taken course
-        else if c then given course
-        else if d then landed course
-        else printed course).course
-    by true b c d = asked-within lines course h
-    by false true c d = taken-within lines course h
-    by false false true d = given-within lines course h
-    by false false false true = landed-within lines course h
-    by false false false false = printed-within lines course h
+    let time = h.time in
+    let requests = h.requests in
+    let takes = h.takes in
+    let answers = h.answers in
+    record {
+      time = grind arith;
+      requests = grind arith;
+      takes = grind arith;
+      answers = grind (arith, nat_tests);
+    }
 
 pub later-grown : (lines : ℕ) (course : Course) → IsWithin lines course → IsGrown lines (later course)
 unfolding later

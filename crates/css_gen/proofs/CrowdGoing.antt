@@ -6,9 +6,10 @@ use Rattle.std.proofs.lemmas.Bool.{lt-ltb, leb-true, leb-false, eqb-true}
 use Rattle.css_gen.specs.Bounds.{IsSmall}
 use Rattle.css_gen.specs.Course.{course_after}
 use Rattle.css_gen.specs.Crowd.{tuned, gathered, crowd_after, next_crowd}
-use Rattle.css_gen.specs.Second.{openings, second_text, second_text_from, crowd_from}
-use Rattle.css_gen.specs.Generated.{text_from, text_numbered, text_in, next_text}
-use Rattle.css_gen.specs.Standing.{AreSome, IsReady, course_from, crowd_with, text_with, CanGive, Follows, IsGenerator}
+use Rattle.css_gen.specs.Second.{openings, second_line, second_line_from, second_text, second_text_from, crowd_from}
+use Rattle.css_gen.specs.Generated.{line_from, line_numbered, line_for, text_from, text_numbered, text_in, next_text}
+use Rattle.css_gen.specs.Standing.{AreSome, IsReady, course_from, crowd_with, line_with, text_with, CanGive, Follows}
+use Rattle.css_gen.specs.Standing.{IsGenerator}
 use Rattle.css_gen.specs.declared.course.Course.{Course}
 use Rattle.css_gen.specs.declared.crowd.Crowd.{Crowd}
 use Rattle.css_gen.proofs.Bounds.{course-small}
@@ -111,6 +112,23 @@ text-next seed lines given crowd text before follows is =
     let next : Option (List ℕ) = Some (text_in seed crowd.companions (given + 1)) in
     ap (λ (t : List ℕ). Some t) (is ∙ text_with-is seed given crowd follows)
     ∙ sym (ap (λ (b : Bool). if b then next else None) (lt-ltb given lines before))
+
+-- so it is of the line
+pub line_with-is : (seed given : ℕ) (crowd : Crowd) → Follows (crowd.companions == 1) seed given crowd
+    → line_with crowd (given + 1) ≡ line_for seed crowd.companions (given + 1)
+unfolding line_numbered second_line
+line_with-is seed given crowd = by (crowd.companions == 1)
+  where
+    by : (one : Bool) → Follows one seed given crowd
+        → (if one then line_from crowd.course (given + 1) else second_line_from crowd (given + 1))
+        ≡ (if one then line_numbered seed (given + 1) else second_line seed crowd.companions (given + 1))
+    by true h =
+        let same : given - 9 ≡ given + 1 - 10 = omega arith in
+        ap (λ (c : Course). line_from c (given + 1)) (h ∙ ap (course_after seed) same)
+    by false h =
+        let opening = openings crowd.companions in
+        let same : given - opening ≡ given + 1 - (opening + 1) = omega arith in
+        ap (λ (c : Crowd). second_line_from c (given + 1)) (h ∙ ap (crowd_after seed crowd.companions) same)
 
 -- ---- the start
 -- no line was given

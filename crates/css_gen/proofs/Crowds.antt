@@ -1,21 +1,22 @@
 -- What a crowd keeps from line to line: its numbers are small, and it knows who sent what.
-use Rattle.std.proofs.Common.{◌≡◌, ℕ, suc, zero, ◌+◌, ◌-◌, ◌*◌, ◌<◌, ◌≤◌, arith, ap, sym, subst, ◌∙◌, refl}
-use Rattle.std.proofs.Common.{Bool, true, false, List, [], ◌∷◌, ◌++◌, length}
-use Rattle.std.specs.Prelude.{◌==◌, nat_lt, min, if◌then◌else◌, slice_index}
-use Rattle.std.proofs.lemmas.Bool.{eqb-false}
+use Rattle.std.proofs.Common.{◌≡◌, ℕ, suc, zero, ◌+◌, ◌≤◌, arith, sym, subst, ◌∙◌, refl}
+use Rattle.std.proofs.Common.{List, [], ◌∷◌, ◌++◌, length}
 use Rattle.std.proofs.lemmas.List.{length-append}
-use Rattle.css_gen.specs.Draws.{draw, Drawn}
+use Rattle.css_gen.specs.Draws.{draw}
 use Rattle.css_gen.specs.Bounds.{IsWithin}
-use Rattle.css_gen.specs.Course.{Happening, asked, taken, taken_back, given, given_next, landed, landed_back, printed}
+use Rattle.css_gen.specs.Course.{Happening}
 use Rattle.css_gen.specs.Course.{chosen, started, later}
-use Rattle.css_gen.specs.Crowd.{gathered, turn, datagrams, landed_from, landed_of, slept, chosen_of, happening_of}
+use Rattle.css_gen.specs.Crowd.{gathered, turn, datagrams, chosen_of, happening_of}
 use Rattle.css_gen.specs.Crowd.{senders_after, askers_after, next_line_of, next_crowd, crowd_after}
 use Rattle.css_gen.specs.Standing.{AreSome, IsReady, CanTurn, IsKnown}
 use Rattle.css_gen.specs.declared.course.Course.{Course}
 use Rattle.css_gen.specs.declared.crowd.Crowd.{Crowd}
 use Rattle.css_gen.specs.declared.crowd.Turn.{Turn}
 use Rattle.css_gen.proofs.Draws.{draw-below}
-use Rattle.css_gen.proofs.Bounds.{IsGrown, asked-within, printed-within, chosen-within, later-grown, within-small}
+use Rattle.css_gen.proofs.Bounds.{IsGrown, later-grown, within-small}
+use Rattle.std.proofs.lemmas.Bool.Decides.{nat_tests}
+use Rattle.css_schedule.specs.declared.line.Verb.{Verb}
+use Rattle.css_schedule.specs.declared.line.Verb.TheVariants.{Take}
 use Rattle.css_gen.proofs.Ranges.{later-can}
 
 -- ---- who sent what
@@ -30,128 +31,66 @@ pub record IsCounted (course : Course) (happening : Happening) : Type 0 where
       → length (askers_after senders askers happening.verb) ≡ happening.course.takes
   pub known : IsKnown course.requests happening.verb
 
-asked-counted : (course : Course) → IsCounted course (asked course)
-asked-counted course = record {
-  senders = λ senders who is. length-more senders who ∙ ap (λ (n : ℕ). n + 1) is;
-  askers = λ senders askers is. is;
-  known = tt;
-}
+senders-counted : (choice : ℕ) (made : List ℕ) (course : Course) (senders : List ℕ) (who : ℕ)
+    → length senders ≡ course.requests
+    → length (senders_after senders who (chosen_of choice made course).verb)
+    ≡ (chosen_of choice made course).course.requests
+unfolding chosen_of chosen
+senders-counted choice made course senders who is = grind (arith, length-more)
 
-taken_back-counted : (course : Course) (drawn : Drawn) → drawn.number < course.requests
-    → IsCounted course (taken_back course drawn)
-taken_back-counted course drawn below = record {
-  senders = λ senders who is. is;
-  askers = λ senders askers is.
-      length-more askers (slice_index senders (course.requests - drawn.number - 1)) ∙ ap (λ (n : ℕ). n + 1) is;
-  known = (omega arith, omega arith);
-}
+askers-counted : (choice : ℕ) (made : List ℕ) (course : Course) (senders askers : List ℕ)
+    → length askers ≡ course.takes
+    → length (askers_after senders askers (chosen_of choice made course).verb)
+    ≡ (chosen_of choice made course).course.takes
+unfolding chosen_of chosen
+askers-counted choice made course senders askers is = grind (arith, length-more)
 
-taken-counted : (course : Course) → IsCounted course (taken course)
-taken-counted course = by (course.requests == 0) refl
-  where
-    by : (b : Bool) → (course.requests == 0) ≡ b
-        → IsCounted course (if b then asked course else taken_back course (draw (min course.requests 4) course.words))
-    by true e = asked-counted course
-    by false e =
-        let some = eqb-false course.requests 0 e in
-        let below = draw-below (min course.requests 4) course.words (omega (arith, some)) in
-        taken_back-counted course (draw (min course.requests 4) course.words) (omega (arith, below))
+-- the request that is taken, or this number
+abbrev taken_or : ℕ → Verb → ℕ
+taken_or none (Take request reading) = request
+taken_or none _ = none
 
-given-counted : (course : Course) → IsCounted course (given course)
-given-counted course = by (course.answers == course.takes)
-  where
-    by : (b : Bool) → IsCounted course (if b then asked course else given_next course)
-    by true = asked-counted course
-    by false = record { senders = λ senders who is. is; askers = λ senders askers is. is; known = tt }
+known-by : (requests : ℕ) (verb : Verb) → 1 ≤ taken_or 1 verb → taken_or 0 verb ≤ requests → IsKnown requests verb
+known-by requests (Take request reading) low high = (low, high)
+known-by requests _ low high = tt
 
-landed-counted : (course : Course) → IsCounted course (landed course)
-landed-counted course = by (course.answers == 0)
-  where
-    by : (b : Bool)
-        → IsCounted course
-        (if b then asked course else landed_back course (draw (min (2 * course.answers) 8) course.words))
-    by true = asked-counted course
-    by false = record { senders = λ senders who is. is; askers = λ senders askers is. is; known = tt }
+taken-low : (choice : ℕ) (made : List ℕ) (course : Course) → 1 ≤ taken_or 1 (chosen_of choice made course).verb
+unfolding chosen_of chosen
+taken-low choice made course = grind (arith, draw-below, nat_tests)
 
-printed-counted : (course : Course) → IsCounted course (printed course)
-printed-counted course =
-    record { senders = λ senders who is. is; askers = λ senders askers is. is; known = tt }
-
-chosen-counted : (choice : ℕ) (course : Course) → IsCounted course (chosen choice course)
-unfolding chosen
-chosen-counted choice course = by (nat_lt choice 2) (choice == 2) (choice == 3) (nat_lt choice 6)
-  where
-    by : (a b c d : Bool)
-        → IsCounted course
-        (if a then asked course
-        else if b then taken course
-        else if c then given course
-        else if d then landed course
-        else printed course)
-    by true b c d = asked-counted course
-    by false true c d = taken-counted course
-    by false false true d = given-counted course
-    by false false false true = landed-counted course
-    by false false false false = printed-counted course
-
-landed_of-counted : (made : List ℕ) (course : Course) → IsCounted course (landed_of made course)
-landed_of-counted made course = by (length made == 0)
-  where
-    by : (b : Bool)
-        → IsCounted course
-        (if b then asked course else landed_from made course (draw (min (length made) 8) course.words))
-    by true = asked-counted course
-    by false = record { senders = λ senders who is. is; askers = λ senders askers is. is; known = tt }
-
-chosen_of-counted : (choice : ℕ) (made : List ℕ) (course : Course) → IsCounted course (chosen_of choice made course)
-unfolding chosen_of
-chosen_of-counted choice made course = by (nat_lt choice 4) (nat_lt choice 6) (nat_lt choice 8)
-  where
-    by : (a b c : Bool)
-        → IsCounted course
-        (if a then chosen choice course
-        else if b then landed_of made course
-        else if c then printed course
-        else slept course)
-    by true b c = chosen-counted choice course
-    by false true c = landed_of-counted made course
-    by false false true = printed-counted course
-    by false false false = record { senders = λ senders who is. is; askers = λ senders askers is. is; known = tt }
+taken-high : (choice : ℕ) (made : List ℕ) (course : Course)
+    → taken_or 0 (chosen_of choice made course).verb ≤ course.requests
+unfolding chosen_of chosen
+taken-high choice made course = grind arith
 
 pub happening_of-counted : (askers : List ℕ) (turn : Turn) → IsCounted turn.course (happening_of askers turn)
 unfolding happening_of
 happening_of-counted askers turn =
     let choice = draw 9 turn.course.words in
-    let counted = chosen_of-counted choice.number (datagrams turn.who askers turn.course.answers)
-    (record turn.course { words = choice.left }) in
-    record { senders = counted.senders; askers = counted.askers; known = counted.known }
+    let made = datagrams turn.who askers turn.course.answers in
+    let drawn : Course = record turn.course { words = choice.left } in
+    record {
+      senders = senders-counted choice.number made drawn;
+      askers = askers-counted choice.number made drawn;
+      known = known-by turn.course.requests (chosen_of choice.number made drawn).verb
+          (taken-low choice.number made drawn) (taken-high choice.number made drawn);
+    }
 
 -- ---- how large the numbers become
-landed_of-within : (lines : ℕ) (made : List ℕ) (course : Course) → IsGrown lines course
-    → IsWithin (suc lines) (landed_of made course).course
-landed_of-within lines made course h = by (length made == 0)
-  where
-    by : (b : Bool)
-        → IsWithin (suc lines)
-        (if b then asked course else landed_from made course (draw (min (length made) 8) course.words)).course
-    by true = asked-within lines course h
-    by false = record { time = h.time; requests = omega arith; takes = omega arith; answers = h.answers }
-
 chosen_of-within : (choice lines : ℕ) (made : List ℕ) (course : Course) → IsGrown lines course
     → IsWithin (suc lines) (chosen_of choice made course).course
-unfolding chosen_of
-chosen_of-within choice lines made course h = by (nat_lt choice 4) (nat_lt choice 6) (nat_lt choice 8)
-  where
-    by : (a b c : Bool)
-        → IsWithin (suc lines)
-        (if a then chosen choice course
-        else if b then landed_of made course
-        else if c then printed course
-        else slept course).course
-    by true b c = chosen-within choice lines course h
-    by false true c = landed_of-within lines made course h
-    by false false true = printed-within lines course h
-    by false false false = record { time = h.time; requests = omega arith; takes = omega arith; answers = h.answers }
+unfolding chosen_of chosen
+chosen_of-within choice lines made course h =
+    let time = h.time in
+    let requests = h.requests in
+    let takes = h.takes in
+    let answers = h.answers in
+    record {
+      time = grind arith;
+      requests = grind arith;
+      takes = grind arith;
+      answers = grind (arith, nat_tests);
+    }
 
 happening_of-within : (lines : ℕ) (askers : List ℕ) (turn : Turn) → IsGrown lines turn.course
     → IsWithin (suc lines) (happening_of askers turn).course

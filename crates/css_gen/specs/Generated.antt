@@ -1,11 +1,13 @@
 -- The lines of a generated schedule.
 use Rattle.std.specs.Prelude.{ℕ, ◌+◌, ◌-◌, ◌==◌, nat_lt, if◌then◌else◌, List, Option, Some, None}
+use Rattle.std.specs.Prelude.{replicate}
+use Rattle.css_schedule.specs.declared.header.Header.{Header}
 use Rattle.css_schedule.specs.declared.line.Line.{Line}
 use Rattle.css_printed.specs.Printed.{header_text, line_text}
 use Rattle.css_gen.specs.Course.{next_line, course_after}
 use Rattle.css_gen.specs.declared.course.Course.{Course}
-use Rattle.css_gen.specs.Opening.{header, opening_line}
-use Rattle.css_gen.specs.Second.{second_text}
+use Rattle.css_gen.specs.Opening.{header, companion, opening_line}
+use Rattle.css_gen.specs.Second.{second_line, second_text}
 
 -- the line of that number, from 2 on, where the lines after the opening have come to this course
 abbrev pub line_from : Course → (number : ℕ) → Line
@@ -32,6 +34,21 @@ abbrev pub text_in : (seed companions number : ℕ) → List ℕ
 text_in seed companions number =
     if companions == 1 then text_numbered seed number else second_text seed companions number
 
+-- ---- the header, and the lines after it
+-- all companions are declared alike
+abbrev pub header_for : (companions : ℕ) → Header
+header_for companions = record header { companions = replicate companions companion }
+
+-- So many lines declare it: with one companion the schedule is of version 1, and line 1 has the whole header.
+abbrev pub heading : (companions : ℕ) → ℕ
+heading companions = if companions == 1 then 1 else companions + 1
+
+-- the line of that number, after the header
+abbrev pub line_for : (seed companions number : ℕ) → Line
+line_for seed companions number =
+    if companions == 1 then line_numbered seed number else second_line seed companions number
+
+-- ---- a generator
 -- A generator: the seed of its lines, how many lines there are in all and of how many companions, and how many it has
 -- given.
 pub record Generator : Type 0 where

@@ -1,12 +1,13 @@
 -- How a generator stands for the lines that it has given.
 use Rattle.std.specs.Prelude.{ℕ, ◌≡◌, ◌≤◌, ◌-◌, ◌==◌, nat_lt, if◌then◌else◌, Bool, true, false, List, length, ⊤}
+use Rattle.css_schedule.specs.declared.line.Line.{Line}
 use Rattle.css_schedule.specs.declared.line.Verb.{Verb}
 use Rattle.css_schedule.specs.declared.line.Verb.TheVariants.{Take}
 use Rattle.css_gen.specs.Bounds.{most_lines, IsSmall, CanHappen}
 use Rattle.css_gen.specs.Course.{next_course, course_after}
 use Rattle.css_gen.specs.Crowd.{crowd_after}
-use Rattle.css_gen.specs.Generated.{text_from}
-use Rattle.css_gen.specs.Second.{openings, second_text_from, crowd_from}
+use Rattle.css_gen.specs.Generated.{line_from, text_from}
+use Rattle.css_gen.specs.Second.{openings, second_line_from, second_text_from, crowd_from}
 use Rattle.css_gen.specs.declared.course.Course.{Course}
 use Rattle.css_gen.specs.declared.crowd.Crowd.{Crowd}
 use Rattle.css_gen.specs.declared.crowd.Turn.{Turn}
@@ -49,6 +50,11 @@ crowd_with crowd number =
 abbrev pub text_with : Crowd → (number : ℕ) → List ℕ
 text_with crowd number =
     if crowd.companions == 1 then text_from crowd.course number else second_text_from crowd number
+
+-- the line of that number, after the header
+abbrev pub line_with : Crowd → (number : ℕ) → Line
+line_with crowd number =
+    if crowd.companions == 1 then line_from crowd.course number else second_line_from crowd number
 
 -- a line more can be given, by whether there is one companion
 abbrev pub CanGive : Bool → Crowd → Type 0

@@ -98,6 +98,20 @@ impl Crowd {
         Ok(text)
     }
 
+    /// The next line.
+    pub(crate) fn next_line(&mut self) -> Result<Line, Memory>
+        requires { IsReady self.old }
+        ensures line { IfOk result (λ line. line ≡ crowds.next_line_of self.old) }
+        ensures crowd { OnOk result (self.new ≡ crowds.next_crowd self.old) }
+        ensures refused { OnErr result (self.new ≡ self.old) }
+    {
+        let mut turn = self.turn()?;
+        let line = self.line(&mut turn);
+        self.remember(&line)?;
+        self.course = turn.course;
+        Ok(line)
+    }
+
     /// True time passes, and a companion is drawn.
     #[tactic(auto, unfolding(crate::specs::Crowd::turn))]
     fn turn(&self) -> Result<Turn, Memory>

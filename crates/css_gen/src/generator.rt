@@ -1,18 +1,20 @@
-ghost use Rattle.std.specs.Prelude.{◌≡◌, ◌≤◌, ◌==◌, IfOk, OnOk, OnErr};
+ghost use Rattle.std.specs.Prelude.{◌≡◌, ◌≤◌, ◌<◌, ◌+◌, ◌==◌, IfOk, OnOk, OnErr};
 ghost use Rattle.css_printed.specs.Printed as printed;
 ghost use Rattle.css_gen.specs.Course.{next_line, next_course};
 ghost use Rattle.css_gen.specs.Opening as opening;
-ghost use Rattle.css_gen.specs.Generated.{text_from, next_text, after_next};
+ghost use Rattle.css_gen.specs.Generated as generated;
+ghost use Rattle.css_gen.specs.Generated.{line_from, text_from, next_text, after_next, header_for, heading, line_for};
 ghost use Rattle.css_gen.specs.Bounds.{IsSmall};
 ghost use Rattle.css_gen.specs.Second.{least_lines};
-ghost use Rattle.css_gen.specs.Standing.{course_from, CanGive, text_with, crowd_with};
+ghost use Rattle.css_gen.specs.Standing.{course_from, CanGive, line_with, text_with, crowd_with};
 
 use crate::course::Course;
 use crate::crowd::Crowd;
 use crate::opening::{header, opening_line};
-use crate::second::second_text;
+use crate::second::{second_line, second_text};
 use css_num::{Memory, Text};
 use css_printed::{print_header, print_line};
+use css_schedule::{Header, Line};
 use std::alloc::Global;
 use std::marker::Model;
 
@@ -76,6 +78,71 @@ impl Generator {
         self.given += 1;
         Ok(Some(text))
     }
+
+    /// The header, and the lines that declare it are given.
+    pub fn header(&mut self, alloc: Global) -> Result<Header, Memory>
+        requires { self.old.given ≡ 0 }
+        ensures header { IfOk result (λ header. header ≡ header_for self.old.companions) }
+        ensures given { OnOk result (self.new ≡ record self.old { given = heading self.old.companions }) }
+    {
+        let companions = self.crowd.companions;
+        let header = header(alloc, companions)?;
+        self.given = heading(companions);
+        Ok(header)
+    }
+
+    /// The next line after the header, as what its text is read as.
+    pub fn line(&mut self, alloc: Global) -> Result<Line, Memory>
+        requires header { heading self.old.companions ≤ self.old.given }
+        requires more { self.old.given < self.old.lines }
+        ensures line { IfOk result
+            (λ line. line ≡ line_for self.old.seed self.old.companions (self.old.given + 1)) }
+        ensures given { OnOk result (self.new ≡ record self.old { given = self.old.given + 1 }) }
+    {
+        let line = line_in(alloc, &mut self.crowd, self.given + 1)?;
+        self.given += 1;
+        Ok(line)
+    }
+}
+
+/// How many lines declare the header of so many companions.
+fn heading(companions: u32) -> u64
+    ensures { result ≡ generated.heading companions }
+{
+    if companions == 1 {
+        1
+    } else {
+        u64::from(companions) + 1
+    }
+}
+
+/// The line of that number, after the header, where the lines after the opening have come to this crowd.
+fn line_in(alloc: Global, crowd: &mut Crowd, number: u64) -> Result<Line, Memory>
+    requires number { generated.heading crowd.old.companions < number }
+    requires ready { CanGive (crowd.old.companions == 1) crowd.old }
+    ensures line { IfOk result (λ line. line ≡ line_with crowd.old number) }
+    ensures crowd { OnOk result (crowd.new ≡ crowd_with crowd.old number) }
+    ensures refused { OnErr result (crowd.new ≡ crowd.old) }
+{
+    if crowd.companions == 1 {
+        line_of(alloc, &mut crowd.course, number)
+    } else {
+        second_line(alloc, crowd, number)
+    }
+}
+
+/// The same with one companion.
+fn line_of(alloc: Global, course: &mut Course, number: u64) -> Result<Line, Memory>
+    requires small { IsSmall course.old }
+    ensures line { IfOk result (λ line. line ≡ line_from course.old number) }
+    ensures course { OnOk result (course.new ≡ course_from course.old number) }
+    ensures refused { OnErr result (course.new ≡ course.old) }
+{
+    if number <= OPENING {
+        opening_line(alloc, number)
+    } else {
+        Ok(course.next())
+    }
 }
 
 /// The text of the line of that number, from 1 on, where the lines after the opening have come to this crowd.
@@ -113,7 +180,7 @@ fn text_of(alloc: Global, course: &mut Course, number: u64) -> Result<Text, Memo
 fn header_text(alloc: Global) -> Result<Text, Memory>
     ensures { IfOk result (λ text. text ≡ printed.header_text opening.header) }
 {
-    print_header(alloc, &header(alloc)?, 1)
+    print_header(alloc, &header(alloc, 1)?, 1)
 }
 
 fn opening_text(alloc: Global, number: u64) -> Result<Text, Memory>

@@ -1,5 +1,6 @@
 ghost use Rattle.std.specs.Prelude.{◌≡◌, ◌≤◌, IfOk};
 ghost use Rattle.css_gen.specs.Opening as opening;
+ghost use Rattle.css_gen.specs.Generated.{header_for};
 
 use css_num::{Memory, Rate, Text};
 use css_player::Command;
@@ -25,12 +26,14 @@ fn companion(alloc: Global) -> Result<CompanionLine, Memory>
     })
 }
 
-/// The header of a generated schedule.
-pub(crate) fn header(alloc: Global) -> Result<Header, Memory>
-    ensures { IfOk result (λ header. header ≡ opening.header) }
+/// The header of a generated schedule of so many companions, which are declared alike.
+pub(crate) fn header(alloc: Global, companions: u32) -> Result<Header, Memory>
+    ensures { IfOk result (λ header. header ≡ header_for companions) }
 {
     let mut list = Vec::new(alloc);
-    list.push(companion(alloc)?)?;
+    for declared in 0..companions {
+        list.push(companion(alloc)?)?;
+    }
     Ok(Header {
         follow: true,
         tv_error: 12_800,

@@ -1,4 +1,4 @@
-ghost use Rattle.std.specs.Prelude.{◌≡◌, ◌≤◌, ◌++◌, decimal, IfOk, OnOk, OnErr};
+ghost use Rattle.std.specs.Prelude.{◌≡◌, ◌≤◌, ◌+◌, ◌++◌, decimal, IfOk, OnOk, OnErr};
 ghost use Rattle.css_printed.specs.Printed as printed;
 ghost use Rattle.css_gen.specs.Second as second;
 ghost use Rattle.css_gen.specs.Standing.{IsReady};
@@ -87,5 +87,20 @@ pub(crate) fn second_text(alloc: Global, crowd: &mut Crowd, number: u64) -> Resu
         placed_text(alloc, number - companions)
     } else {
         crowd.next_text(alloc)
+    }
+}
+
+/// The line of that number, after those of the companions, where the lines after the opening have come to this crowd.
+pub(crate) fn second_line(alloc: Global, crowd: &mut Crowd, number: u64) -> Result<Line, Memory>
+    requires number { crowd.old.companions + 2 ≤ number }
+    requires ready { IsReady crowd.old }
+    ensures line { IfOk result (λ line. line ≡ second.second_line_from crowd.old number) }
+    ensures crowd { OnOk result (crowd.new ≡ second.crowd_from crowd.old number) }
+    ensures refused { OnErr result (crowd.new ≡ crowd.old) }
+{
+    if number <= openings(crowd.companions) {
+        line_placed(alloc, number - u64::from(crowd.companions))
+    } else {
+        crowd.next_line()
     }
 }

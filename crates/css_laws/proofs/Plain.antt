@@ -1,28 +1,41 @@
--- The text of a line is short, and no line feed stands in it, where its verb is one of those that are generated.
-use Rattle.std.proofs.Common.{◌≡◌, ℕ, ◌+◌, ◌*◌, ◌^◌, ◌<◌, ◌≤◌, arith, subst, refl, Bool, true, false}
-use Rattle.std.proofs.Common.{List, [], ◌∷◌, ◌++◌, length}
-use Rattle.std.specs.Prelude.{◌==◌, ◌&&◌, not, nat_le, pos, negsuc, codes, decimal}
-use Rattle.std.specs.Char.{digit_value}
+-- The texts of a generated schedule are short, and no line feed stands in them.
+use Rattle.std.proofs.Common.{◌≡◌, ℕ, suc, ◌+◌, ◌-◌, ◌*◌, ◌^◌, ◌<◌, ◌≤◌, arith, subst, sym, refl, Bool, true, false}
+use Rattle.std.proofs.Common.{rules, List, [], ◌∷◌, ◌++◌, length}
+use Rattle.std.specs.Prelude.{◌==◌, ◌&&◌, not, nat_le, pos, negsuc, codes, decimal, if◌then◌else◌}
+use Rattle.std.specs.Fmt.{digits}
 use Rattle.std.specs.List.{list_all}
-use Rattle.std.specs.Str.Parse.{AllDigits}
-use Rattle.std.proofs.lemmas.Bool.{ne_eqb, leb-true}
-use Rattle.std.proofs.lemmas.Fmt.{decimal_is_IsNumeral, length-decimal-le}
+use Rattle.std.proofs.lemmas.Bool.{leb-true, eqb-true}
+use Rattle.std.proofs.lemmas.Bool.Decides.{nat_tests}
+use Rattle.std.proofs.lemmas.Fmt.{length-decimal-le}
 use Rattle.std.proofs.lemmas.List.{length-append}
-use Rattle.std.proofs.lemmas.List.Elements.{All-nil, All-cons, All-append}
+use Rattle.std.proofs.lemmas.List.Elements.{All-cons, All-append}
 use Rattle.css_lines.specs.Lines.{is_feed}
 use Rattle.css_lines.specs.Progress.{HasNoFeed}
 use Rattle.css_model.specs.declared.TheConstants.{LIMIT}
 use Rattle.css_player.specs.declared.command.Command.TheVariants as commands
 use Rattle.css_num.specs.declared.protocol.Kind.{Kind}
 use Rattle.css_num.specs.declared.protocol.Kind.TheVariants.{Cii, Ts}
+use Rattle.css_schedule.proofs.Graphic.{both}
 use Rattle.css_schedule.specs.Words.{with_words}
-use Rattle.css_printed.specs.Printed.{kind_word, verb_words, clock_words, line_text_in}
 use Rattle.css_schedule.specs.Ranges.{IsVerb, IsLine}
 use Rattle.css_schedule.specs.declared.line.Line.{Line}
 use Rattle.css_schedule.specs.declared.line.Verb.{Verb}
-use Rattle.css_schedule.specs.declared.line.Verb.TheVariants.{Ask, Take, Give, Land, Wall, Print}
+use Rattle.css_schedule.specs.declared.line.Verb.TheVariants.{Ask, Wall}
 use Rattle.css_schedule.specs.declared.line.Verb.TheVariants.{Programme, Timeline, Viewer}
-use Rattle.css_schedule.specs.declared.line.Verb.TheVariants.{Opening, Bring, Up, Present, Close, Sleep}
+use Rattle.css_schedule.specs.declared.line.Verb.TheVariants.{Up, Present, Sleep}
+use Rattle.css_printed.proofs.Spaced.{line-free, decimal-solid}
+use Rattle.css_printed.specs.Printed.{kind_word, verb_words, clock_words, line_text_in, header_text, companion_words}
+use Rattle.css_printed.specs.Printed.{declared_words}
+use Rattle.css_gen.specs.Course.{chosen, happening}
+use Rattle.css_gen.specs.Crowd.{chosen_of, happening_of}
+use Rattle.css_gen.specs.Opening.{header, companion, opening_verb}
+use Rattle.css_gen.specs.Generated.{line_numbered, text_numbered, text_in}
+use Rattle.css_gen.specs.Second.{second_line, second_text, second_header_text, companion_text, openings, crowd_before}
+use Rattle.css_gen.specs.Standing.{AreSome}
+use Rattle.css_gen.specs.declared.course.Course.{Course}
+use Rattle.css_gen.proofs.Crowds.{crowd-companions}
+use Rattle.css_survey.specs.Generated.{heading, version_for, line_for}
+use Rattle.css_laws.proofs.Runs.{free-by}
 
 -- ---- words
 -- a word of at most 24 bytes without a line feed
@@ -30,213 +43,194 @@ pub record IsPlain (word : List ℕ) : Type 0 where
   pub free : HasNoFeed word
   pub short : length word ≤ 24
 
--- each of these words is
-abbrev pub ArePlain : List (List ℕ) → Type 0
+abbrev ArePlain : List (List ℕ) → Type 0
 ArePlain [] = Unit {0}
 ArePlain (word ∷ words) = IsPlain word × ArePlain words
 
--- where no byte is a line feed, by a test
-free-by : (bytes : List ℕ) → list_all (λ byte. not (is_feed byte)) bytes ≡ true → HasNoFeed bytes
-free-by [] e = All-nil (λ byte. is_feed byte ≡ false)
-free-by (byte ∷ bytes) e =
-    by (is_feed byte) refl (list_all (λ b. not (is_feed b)) bytes) refl (λ h. free-by bytes h) e
-  where
-    by : (feed : Bool) → is_feed byte ≡ feed → (rest : Bool) → list_all (λ b. not (is_feed b)) bytes ≡ rest
-        → (list_all (λ b. not (is_feed b)) bytes ≡ true → HasNoFeed bytes)
-        → (not feed && rest) ≡ true → HasNoFeed (byte ∷ bytes)
-    by true is rest same more p = absurd (cc)
-    by false is false same more p = absurd (cc)
-    by false is true same more p = All-cons (λ b. is_feed b ≡ false) byte bytes is (more same)
+-- by a test
+abbrev pub is_plain : List ℕ → Bool
+is_plain word = list_all (λ byte. not (is_feed byte)) word && nat_le (length word) 24
 
--- a word is plain, by two tests
-pub plain-by : (word : List ℕ) → list_all (λ byte. not (is_feed byte)) word ≡ true
-    → nat_le (length word) 24 ≡ true → IsPlain word
-plain-by word free short = record { free = free-by word free; short = leb-true (length word) 24 short }
+plain-by : (word : List ℕ) → is_plain word ≡ true → IsPlain word
+plain-by word e =
+    let tests = both (list_all (λ byte. not (is_feed byte)) word) (nat_le (length word) 24) e in
+    record { free = free-by word tests.0; short = leb-true (length word) 24 tests.1 }
 
--- a number is plain, since digits are no line feeds
-digits-free : (digits : List ℕ) → AllDigits 10 digits → HasNoFeed digits
-digits-free [] h = All-nil (λ byte. is_feed byte ≡ false)
-digits-free (digit ∷ digits) h =
-    All-cons (λ byte. is_feed byte ≡ false) digit digits
-    (ne_eqb digit 10 (λ e. absurd (
-    let feed : digit_value 10 < 10 = subst (λ b. digit_value b < 10) e h.0 in omega (arith, feed))))
-    (digits-free digits h.1)
+plain-all : (words : List (List ℕ)) → list_all is_plain words ≡ true → ArePlain words
+plain-all [] e = tt
+plain-all (word ∷ words) e =
+    let tests = both (is_plain word) (list_all is_plain words) e in
+    (plain-by word tests.0, plain-all words tests.1)
 
-pub number-plain : (number : ℕ) → number < LIMIT → IsPlain (decimal number)
+number-plain : (number : ℕ) → number < LIMIT → IsPlain (decimal number)
 number-plain number small =
     let fits : number < 2 ^ 64 = omega (arith, small) in
     let short = length-decimal-le 20 number (omega arith) (omega (arith, small)) fits in
-    record { free = digits-free (decimal number) (decimal_is_IsNumeral number fits).0.1; short = omega (arith, short) }
-
--- so is a number with a minus before it
-pub negative-plain : (number : ℕ) → number < LIMIT → IsPlain (45 ∷ decimal number)
-negative-plain number small =
-    let digits = number-plain number small in
-    let fits : number < 2 ^ 64 = omega (arith, small) in
-    let short = length-decimal-le 20 number (omega arith) (omega (arith, small)) fits in
-    record {
-      free = All-cons (λ byte. is_feed byte ≡ false) 45 (decimal number) refl digits.free;
-      short = omega (arith, short);
-    }
+    record { free = line-free (decimal number) [] (decimal-solid number fits) tt; short = omega (arith, short) }
 
 kind-plain : (kind : Kind) → IsPlain (kind_word kind)
-kind-plain Cii = plain-by (codes "cii") refl refl
-kind-plain Ts = plain-by (codes "ts") refl refl
+kind-plain Cii = plain-by (codes "cii") refl
+kind-plain Ts = plain-by (codes "ts") refl
 
--- words before words
 both-plain : (first second : List (List ℕ)) → ArePlain first → ArePlain second → ArePlain (first ++ second)
 both-plain [] second plain more = more
 both-plain (word ∷ first) second plain more = (plain.0, both-plain first second plain.1 more)
 
--- ---- verbs
--- a verb that is generated has plain texts, and is no `wall`
-abbrev pub IsShort : Verb → Type 0
-IsShort (Programme content_id) = IsPlain content_id
-IsShort (Timeline programme selector rate (pos base)) = IsPlain selector × (base < LIMIT)
-IsShort (Timeline programme selector rate (negsuc base)) = ⊥
-IsShort (Viewer reading (commands.Change programme)) = Unit {0}
-IsShort (Viewer reading _) = ⊥
-IsShort (Wall reading) = ⊥
-IsShort (Present earliest latest) = ⊥
-IsShort _ = Unit {0}
+-- ---- lines
+-- the verbs that are generated, and the texts in them
+abbrev pub is_short : Verb → Bool
+is_short (Programme id) = is_plain id
+is_short (Timeline programme selector rate (pos base)) = is_plain selector && base == 0
+is_short (Timeline programme selector rate (negsuc base)) = false
+is_short (Viewer reading (commands.Change programme)) = true
+is_short (Viewer reading _) = false
+is_short (Wall reading) = false
+is_short (Present earliest latest) = false
+is_short _ = true
 
--- the words of such a verb
-record HasPlainWords (verb : Verb) : Type 0 where
-  plain : ArePlain (verb_words verb)
-  few : length (verb_words verb) ≤ 6
+chosen-short : (choice : ℕ) (course : Course) → is_short (chosen choice course).verb ≡ true
+unfolding chosen
+chosen-short choice course = grind arith
 
-pub two : {a b : List ℕ} → IsPlain a → IsPlain b → ArePlain (a ∷ b ∷ [])
-two x y = (x, (y, tt))
+opening-short : (number : ℕ) → is_short (opening_verb number) ≡ true
+unfolding opening_verb
+opening-short number = grind arith
 
-three : {a b c : List ℕ} → IsPlain a → IsPlain b → IsPlain c → ArePlain (a ∷ b ∷ c ∷ [])
-three x y z = (x, two y z)
+first-short : (seed number : ℕ) → is_short (line_numbered seed number).verb ≡ true
+unfolding line_numbered happening
+first-short seed number = grind (arith, opening-short, chosen-short)
 
-six : {a b c d e f : List ℕ} → IsPlain a → IsPlain b → IsPlain c → IsPlain d → IsPlain e → IsPlain f
-    → ArePlain (a ∷ b ∷ c ∷ d ∷ e ∷ f ∷ [])
-six u v w x y z = (u, (v, (w, three x y z)))
+chosen_of-short : (choice : ℕ) (made : List ℕ) (course : Course) → is_short (chosen_of choice made course).verb ≡ true
+unfolding chosen_of
+chosen_of-short choice made course = grind (arith, chosen-short)
 
-words-plain : (verb : Verb) → IsVerb verb → IsShort verb → HasPlainWords verb
-words-plain (Ask reading) range short = record {
-  plain = two (plain-by (codes "ask") refl refl) (number-plain reading range);
-  few = omega arith;
-}
-words-plain (Take request reading) range short = record {
-  plain = three (plain-by (codes "take") refl refl) (number-plain request (omega (arith, range.number.high)))
-      (number-plain reading range.reading);
-  few = omega arith;
-}
-words-plain (Give take reading) range short = record {
-  plain = three (plain-by (codes "give") refl refl) (number-plain take (omega (arith, range.number.high)))
-      (number-plain reading range.reading);
-  few = omega arith;
-}
-words-plain (Land datagram reading) range short = record {
-  plain = three (plain-by (codes "land") refl refl) (number-plain datagram (omega (arith, range.number.high)))
-      (number-plain reading range.reading);
-  few = omega arith;
-}
-words-plain (Wall reading) range short = absurd short
-words-plain (Print reading) range short = record {
-  plain = two (plain-by (codes "print") refl refl) (number-plain reading range);
-  few = omega arith;
-}
-words-plain (Programme content_id) range short = record {
-  plain = two (plain-by (codes "programme") refl refl) short;
-  few = omega arith;
-}
-words-plain (Timeline programme selector rate (pos base)) range short = record {
-  plain = six (plain-by (codes "timeline") refl refl) (number-plain programme (omega (arith, range.programme.high)))
-      short.0 (number-plain rate.units_per_tick (omega (arith, range.rate.tick_small)))
-      (number-plain rate.units_per_second (omega (arith, range.rate.second_small))) (number-plain base short.1);
-  few = omega arith;
-}
-words-plain (Timeline programme selector rate (negsuc base)) range short = absurd short
-words-plain (Viewer reading (commands.Change programme)) range short = record {
-  plain = three (plain-by (codes "change") refl refl) (number-plain reading range.reading)
-      (number-plain programme (omega (arith, range.command.high)));
-  few = omega arith;
-}
-words-plain (Viewer reading (commands.Speed speed)) range short = absurd short
-words-plain (Viewer reading (commands.Seek media)) range short = absurd short
-words-plain (Opening kind) range short = record {
-  plain = two (plain-by (codes "open") refl refl) (kind-plain kind);
-  few = omega arith;
-}
-words-plain (Bring kind) range short = record {
-  plain = two (plain-by (codes "text") refl refl) (kind-plain kind);
-  few = omega arith;
-}
-words-plain Up range short = record {
-  plain = two (plain-by (codes "up") refl refl) (kind-plain Ts);
-  few = omega arith;
-}
-words-plain (Present earliest latest) range short = absurd short
-words-plain (Close kind) range short = record {
-  plain = two (plain-by (codes "close") refl refl) (kind-plain kind);
-  few = omega arith;
-}
-words-plain Sleep range short = record {
-  plain = (plain-by (codes "sleep") refl refl, tt);
-  few = omega arith;
-}
+second-short : (seed companions number : ℕ) → is_short (second_line seed companions number).verb ≡ true
+unfolding second_line happening_of
+second-short seed companions number = grind (arith, opening-short, chosen_of-short)
+
+pub line-short : (seed companions number : ℕ) → is_short (line_for seed companions number).verb ≡ true
+line-short seed companions number = grind (arith, first-short, second-short)
+
+ordinal-plain : (number : ℕ) → number < 4294967296 → IsPlain (decimal number)
+ordinal-plain number small = number-plain number (omega (arith, small))
+
+words-plain : (verb : Verb) → IsVerb verb → is_short verb ≡ true → ArePlain (verb_words verb)
+words-plain (Wall reading) range e = absurd (cc)
+words-plain (Programme id) range e = (plain-by (codes "programme") refl, (plain-by id e, tt))
+words-plain (Timeline programme selector rate (pos base)) range e =
+    let tests = both (is_plain selector) (base == 0) e in
+    let none = eqb-true base 0 tests.1 in
+    let name = plain-by (codes "timeline") refl in
+    let number = number-plain programme (omega (arith, range.programme.high)) in
+    let word = plain-by selector tests.0 in
+    let tick = number-plain rate.units_per_tick (omega (arith, range.rate.tick_small)) in
+    let second = number-plain rate.units_per_second (omega (arith, range.rate.second_small)) in
+    (name, (number, (word, (tick, (second, (number-plain base (omega (arith, none)), tt))))))
+words-plain (Timeline programme selector rate (negsuc base)) range e = absurd (cc)
+words-plain (Viewer reading (commands.Speed speed)) range e = absurd (cc)
+words-plain (Viewer reading (commands.Seek media)) range e = absurd (cc)
+words-plain (Present earliest latest) range e = absurd (cc)
+words-plain Up range e = plain-all (verb_words Up) refl
+words-plain Sleep range e = plain-all (verb_words Sleep) refl
+words-plain _ range e = (plain-by _ refl, search (rules, number-plain, ordinal-plain, kind-plain))
+
+few-words : (verb : Verb) → length (verb_words verb) ≤ 6
+few-words (Ask reading) = omega arith
+few-words _ = omega arith
+
+clocks-plain : (first : Bool) (line : Line) → IsLine line → line.who < LIMIT
+    → ArePlain (clock_words first line) × (length (clock_words first line) ≤ 3)
+clocks-plain true line range who = ((number-plain line.w range.w, (number-plain line.l range.l, tt)), omega arith)
+clocks-plain false line range who =
+    ((number-plain line.w range.w, (number-plain line.who who, (number-plain line.l range.l, tt))), omega arith)
 
 -- ---- texts
--- words that follow a text
-with_words-free : (text : List ℕ) (words : List (List ℕ)) → HasNoFeed text → ArePlain words
-    → HasNoFeed (with_words text words)
-with_words-free text [] free plain = free
-with_words-free text (word ∷ words) free plain =
-    with_words-free (text ++ 32 ∷ word) words
-    (All-append (λ byte. is_feed byte ≡ false) text (32 ∷ word) free
-    (All-cons (λ byte. is_feed byte ≡ false) 32 word refl plain.0.free)) plain.1
-
-with_words-short : (text : List ℕ) (words : List (List ℕ)) → ArePlain words
-    → length (with_words text words) ≤ length text + 25 * length words
-with_words-short text [] plain = omega arith
-with_words-short text (word ∷ words) plain =
-    omega (
-      arith,
-      with_words-short (text ++ 32 ∷ word) words plain.1,
-      length-append text (32 ∷ word),
-      plain.0.short,
-    )
-
 -- a text of at most 299 bytes without a line feed
 pub record IsLineText (text : List ℕ) : Type 0 where
   pub free : HasNoFeed text
   pub short : length text ≤ 299
 
+with_words-text : (text : List ℕ) (words : List (List ℕ)) → HasNoFeed text → ArePlain words
+    → HasNoFeed (with_words text words) × (length (with_words text words) ≤ length text + 25 * length words)
+with_words-text text [] free plain = (free, omega arith)
+with_words-text text (word ∷ words) free plain =
+    let more = with_words-text (text ++ 32 ∷ word) words
+    (All-append (λ byte. is_feed byte ≡ false) text (32 ∷ word) free
+    (All-cons (λ byte. is_feed byte ≡ false) 32 word refl plain.0.free)) plain.1 in
+    (more.0, omega (arith, more.1, length-append text (32 ∷ word), plain.0.short))
+
 -- a word and up to 11 more are such a text
-pub words-text : (word : List ℕ) (words : List (List ℕ)) → IsPlain word → ArePlain words → length words ≤ 11
+words-text : (word : List ℕ) (words : List (List ℕ)) → IsPlain word → ArePlain words → length words ≤ 11
     → IsLineText (with_words word words)
-words-text word words plain more few = record {
-  free = with_words-free word words plain.free more;
-  short = omega (arith, with_words-short word words more, plain.short, few);
-}
-
--- ---- lines
--- the words of a line's clocks
-record HasPlainClocks (first : Bool) (line : Line) : Type 0 where
-  plain : ArePlain (clock_words first line)
-  few : length (clock_words first line) ≤ 3
-
-clocks-plain : (first : Bool) (line : Line) → IsLine line → line.who < LIMIT → HasPlainClocks first line
-clocks-plain true line range who = record {
-  plain = two (number-plain line.w range.w) (number-plain line.l range.l);
-  few = omega arith;
-}
-clocks-plain false line range who = record {
-  plain = three (number-plain line.w range.w) (number-plain line.who who) (number-plain line.l range.l);
-  few = omega arith;
-}
+words-text word words plain more few =
+    let text = with_words-text word words plain.free more in
+    record { free = text.0; short = omega (arith, text.1, plain.short, few) }
 
 -- the text of a line in a version
-pub line-plain : (version : ℕ) (line : Line) → IsLine line → line.who < LIMIT → IsShort line.verb
+pub line-plain : (version : ℕ) (line : Line) → IsLine line → line.who < LIMIT → is_short line.verb ≡ true
     → IsLineText (line_text_in version line)
-line-plain version line range who short =
-    let words = words-plain line.verb range.verb short in
+line-plain version line range who e =
     let clocks = clocks-plain (version == 1) line range who in
     let before = clock_words (version == 1) line in
     words-text (decimal line.t) (before ++ verb_words line.verb) (number-plain line.t range.t)
-    (both-plain before (verb_words line.verb) clocks.plain words.plain)
-    (omega (arith, length-append before (verb_words line.verb), clocks.few, words.few))
+    (both-plain before (verb_words line.verb) clocks.0 (words-plain line.verb range.verb e))
+    (omega (arith, length-append before (verb_words line.verb), clocks.1, few-words line.verb))
+
+-- the header of one companion, and the lines of that of several
+header-plain : IsLineText (header_text header)
+unfolding digits
+header-plain = record {
+  free = free-by (header_text header) refl;
+  short = leb-true (length (header_text header)) 299 refl;
+}
+
+second_header-plain : (companions : ℕ) → companions ≤ 16 → IsLineText (second_header_text companions)
+unfolding digits
+second_header-plain companions few =
+    words-text (codes "css-schedule") (codes "2" ∷ declared_words header (decimal companions ∷ []))
+    (plain-by (codes "css-schedule") refl)
+    (both-plain (codes "2" ∷ declared_words header []) (decimal companions ∷ [])
+    (plain-all (codes "2" ∷ declared_words header []) refl) (number-plain companions (omega (arith, few)), tt))
+    (omega arith)
+
+companion-plain : (who : ℕ) → who ≤ 16 → IsLineText (companion_text who)
+unfolding digits
+companion-plain who few =
+    words-text (codes "companion") (decimal who ∷ companion_words companion) (plain-by (codes "companion") refl)
+    (number-plain who (omega (arith, few)), plain-all (companion_words companion) refl) (omega arith)
+
+-- the crowd has so many companions
+same-crowd : (seed companions number : ℕ) → (crowd_before seed companions number).companions ≡ companions
+same-crowd seed companions number = crowd-companions seed companions (number - (openings companions + 1))
+
+-- a line of the header
+abbrev header_line : (companions before : ℕ) → Bool → Bool → List ℕ
+header_line companions before one first =
+    if one then header_text header else if first then second_header_text companions else companion_text before
+
+header-line : (seed companions before : ℕ) → before < heading companions
+    → text_in seed companions (suc before) ≡ header_line companions before (companions == 1) (before == 0)
+unfolding text_numbered second_text
+header-line seed companions before early =
+    let is = same-crowd seed companions (suc before) in
+    grind (arith, nat_tests, is)
+
+pub header-short : (seed companions before : ℕ) → AreSome companions → before < heading companions
+    → IsLineText (text_in seed companions (suc before))
+header-short seed companions before some early =
+    subst IsLineText (sym (header-line seed companions before early)) (by (companions == 1) (before == 0))
+  where
+    few : before ≤ 16
+    few = let high = some.high in grind (arith, nat_tests)
+
+    by : (one first : Bool) → IsLineText (header_line companions before one first)
+    by true first = header-plain
+    by false true = second_header-plain companions some.high
+    by false false = companion-plain before few
+
+pub line-text : (seed companions number : ℕ) → heading companions < number
+    → text_in seed companions number ≡ line_text_in (version_for companions) (line_for seed companions number)
+unfolding text_numbered line_numbered second_text second_line
+line-text seed companions number late =
+    let is = same-crowd seed companions number in
+    grind (arith, nat_tests, is)

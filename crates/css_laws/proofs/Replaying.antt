@@ -1,45 +1,48 @@
 -- A replay of a generated schedule accepts each line, and prints what is told at it.
-use Rattle.std.proofs.Common.{◌≡◌, ℕ, suc, zero, ◌+◌, ◌-◌, ◌*◌, ◌<◌, ◌≤◌, arith, ap, sym, subst, ◌∙◌, refl}
-use Rattle.std.proofs.Common.{Bool, true, false, cond, ltb, List, [], ◌∷◌, ◌++◌, length}
-use Rattle.std.specs.Prelude.{Option, Some, None, Result, Ok, ◌||◌, ◌==◌, if◌then◌else◌}
+use Rattle.std.proofs.Common.{◌≡◌, ℕ, suc, zero, ◌+◌, ◌-◌, ◌*◌, ◌<◌, ◌≤◌, ◌==◌, arith, ap, sym, subst, ◌∙◌, refl}
+use Rattle.std.proofs.Common.{Bool, true, false, List, [], ◌∷◌, ◌++◌, length}
+use Rattle.std.specs.Prelude.{Option, Some, None, Result, Ok, if◌then◌else◌, replicate}
 use Rattle.std.specs.Option.{option_map, option_to_list}
-use Rattle.std.proofs.lemmas.Bool.{le-ltb}
-use Rattle.std.proofs.lemmas.List.{append_assoc, append-nil, length-replicate}
-use Rattle.std.proofs.lemmas.List.Sums.{sum_by-append, sum_by-cons}
-use Rattle.css_lines.specs.Lines.{whole_lines, last_part}
-use Rattle.css_lines.specs.Meaning.{Outcome, outcome, outcome_so_far, accepted, followed_by, reader_outcome}
-use Rattle.css_lines.specs.Meaning.{line_outcome, outcome_from, end_outcome, offset, refused_at}
-use Rattle.css_lines.specs.declared.reader.Refusal.TheVariants.{Long}
-use Rattle.css_lines.proofs.Cut.{whole_lines_is, last_part_is, whole_lines_feed, whole_lines_free, last_part_feed}
-use Rattle.css_lines.proofs.Cut.{last_part_free}
-use Rattle.css_lines.proofs.Meant.{outcome_at_end, so_far_free, so_far_feed}
+use Rattle.std.proofs.lemmas.Bool.{eq-eqb, ne_eqb, eqb-true, eqb-false}
+use Rattle.std.proofs.lemmas.Bool.Decides.{nat_tests}
+use Rattle.std.proofs.lemmas.List.{append-nil, length-append, length-replicate, replicate_more}
+use Rattle.std.proofs.lemmas.List.Concat.{flat_map-append}
+use Rattle.css_lines.specs.Meaning.{Outcome, outcome, outcome_from, accepted, followed_by, reader_outcome, line_outcome}
+use Rattle.css_lines.specs.Meaning.{offset}
+use Rattle.css_lines.specs.Progress.{HasNoFeed}
+use Rattle.css_lines.proofs.Meant.{outcome_from-append}
 use Rattle.css_companion.specs.Printed.{line_of}
 use Rattle.css_schedule.specs.declared.fault.LineFault.{LineFault}
+use Rattle.css_schedule.specs.declared.header.CompanionLine.{CompanionLine}
 use Rattle.css_schedule.specs.declared.header.Header.{Header}
+use Rattle.css_schedule.specs.declared.header.Start.{Start}
 use Rattle.css_schedule.specs.declared.line.Line.{Line}
 use Rattle.css_schedule.specs.declared.line.Verb.{Verb}
-use Rattle.css_schedule.specs.declared.line.Verb.TheVariants.{Ask, Take, Give, Land, Wall, Print}
-use Rattle.css_schedule.specs.declared.line.Verb.TheVariants.{Programme, Timeline, Viewer}
-use Rattle.css_schedule.specs.declared.line.Verb.TheVariants.{Opening, Bring, Up, Present, Close, Sleep}
+use Rattle.css_schedule.specs.declared.line.Verb.TheVariants.{Wall, Print}
+use Rattle.css_schedule.specs.Headers.{header_of, companion_of, with_companion}
 use Rattle.css_schedule.specs.Lines.{line_in}
 use Rattle.css_world.specs.Happened.{Numbered}
 use Rattle.css_world.specs.Verdicts.{printed_for}
 use Rattle.css_world.proofs.Worlds.{carried_ok}
-use Rattle.css_gen.specs.Generated.{text_in}
+use Rattle.css_gen.specs.Generated.{line_numbered, text_numbered, text_in}
 use Rattle.css_gen.specs.Opening as opening
+use Rattle.css_gen.specs.Second.{second_line, second_text}
 use Rattle.css_gen.specs.Standing.{AreSome}
+use Rattle.css_gen.proofs.Reading.{generated_read}
+use Rattle.css_gen.proofs.SecondReading.{second_read}
 use Rattle.css_survey.specs.Generated.{schedule_text, header_for, heading, version_for, line_for, numbered_for}
 use Rattle.css_survey.specs.Generated.{generated}
 use Rattle.css_survey.specs.Surveyed.{Told, asked_by, told_by, told_at, told_of, told_text, told_in}
 use Rattle.css_survey.proofs.Accepted.{generated_accepted}
 use Rattle.css_replay.specs.declared.reader.Cause.{Cause}
+use Rattle.css_replay.specs.Replayed.{Extent, Opening, Outset, Running, after, caused, declared, ended_at, grown}
+use Rattle.css_replay.specs.Replayed.{longest_input, longest_line, meant_at, next_companion, opened, reached}
+use Rattle.css_replay.specs.Replayed.{read_meant}
+use Rattle.css_replay.specs.Replayed.{replayed, started, version_of, with_line}
+use Rattle.css_replay.proofs.Texts.{printed_is, reached-push}
 use Rattle.css_laws.specs.Generations.{GeneratedSchedulesAreReplayed}
-use Rattle.css_replay.specs.Replayed.{Running, caused, ended_at, longest_input, longest_line, reached, read_meant}
-use Rattle.css_replay.specs.Replayed.{replayed, version_of}
-use Rattle.css_laws.proofs.GeneratedTexts.{line_short, line_text, line_read, header_short, header_silent, texts_of}
-use Rattle.css_laws.proofs.GeneratedTexts.{text_meant, text-meant, lines-read}
-use Rattle.css_laws.proofs.Plain.{IsShort, IsLineText, line-plain}
-use Rattle.css_replay.proofs.Texts.{printed_is}
+use Rattle.css_laws.proofs.Plain.{is_short, IsLineText, line-short, line-plain, line-text, header-short}
+use Rattle.css_laws.proofs.Runs.{joined, AreFree, joined-outcome, short-line, offset-push, not-long}
 
 -- ---- what is printed
 -- the line of a report, if there is one
@@ -54,52 +57,212 @@ told_text-more None older = sym (append-nil (told_text older))
 told_text-more (Some told) older = refl
 
 -- where no line is `wall`, reports alone are printed
-printed-told : (header : Header) (older : List Numbered) (now : Numbered) (verb : Verb) → IsShort verb
+printed-told : (header : Header) (older : List Numbered) (now : Numbered) (verb : Verb) → is_short verb ≡ true
     → printed_for header older now verb ≡ told_line (option_map (told_by header older now) (asked_by verb))
 printed-told header older now (Print r) short = refl
-printed-told header older now (Wall r) short = absurd short
-printed-told header older now (Ask r) short = refl
-printed-told header older now (Take n r) short = refl
-printed-told header older now (Give n r) short = refl
-printed-told header older now (Land n r) short = refl
-printed-told header older now (Programme id) short = refl
-printed-told header older now (Timeline n s r b) short = refl
-printed-told header older now (Viewer r c) short = refl
-printed-told header older now (Opening k) short = refl
-printed-told header older now (Bring k) short = refl
-printed-told header older now Up short = refl
-printed-told header older now (Present a b) short = refl
-printed-told header older now (Close k) short = refl
-printed-told header older now Sleep short = refl
+printed-told header older now (Wall r) short = absurd (cc)
+printed-told header older now _ short = refl
+
+-- ---- the texts so far
+-- those of the first lines, so many of them
+abbrev texts_of : (seed companions lines : ℕ) → List (List ℕ)
+texts_of seed companions zero = []
+texts_of seed companions (suc lines) = texts_of seed companions lines ++ text_in seed companions (suc lines) ∷ []
+
+schedule-texts : (seed companions lines : ℕ)
+    → schedule_text seed companions lines ≡ joined (texts_of seed companions lines)
+schedule-texts seed companions zero = refl
+schedule-texts seed companions (suc lines) =
+    let text = text_in seed companions (suc lines) in
+    ap (λ (t : List ℕ). t ++ (text ++ 10 ∷ [])) (schedule-texts seed companions lines)
+    ∙ ap (λ (t : List ℕ). joined (texts_of seed companions lines) ++ t) (sym (append-nil (text ++ 10 ∷ [])))
+    ∙ sym (flat_map-append (λ line. line ++ 10 ∷ []) (texts_of seed companions lines) (text ∷ []))
+
+free-push : (lines : List (List ℕ)) (line : List ℕ) → AreFree lines → HasNoFeed line → AreFree (lines ++ line ∷ [])
+free-push [] line free more = (more, tt)
+free-push (first ∷ lines) line free more = (free.0, free-push lines line free.1 more)
+
+-- So many lines were read that far, for which this is printed, and they aren't long.
+record AreRead (seed companions lines : ℕ) (extent : Extent) (printed : List ℕ) : Type 0 where
+  far : reached (texts_of seed companions lines) ≡ extent
+  so_far : outcome_from replayed [] (texts_of seed companions lines) ≡ accepted printed
+  count : length (texts_of seed companions lines) ≡ lines
+  few : offset (texts_of seed companions lines) ≤ 300 * lines
+  free : AreFree (texts_of seed companions lines)
+
+nothing-read : (seed companions : ℕ) → AreRead seed companions 0 Outset []
+nothing-read seed companions =
+    record { far = refl; so_far = refl; count = refl; few = omega arith; free = tt }
+
+-- the limits of a version aren't below those of version 1
+limits : (version : ℕ) → (4096 ≤ longest_line version) × (67108864 ≤ longest_input version)
+limits version = (grind (arith, nat_tests), grind (arith, nat_tests))
+
+-- one line more
+one-more : (seed companions lines number : ℕ) (extent next : Extent) (so_far printed : List ℕ) → lines < 200000
+    → AreRead seed companions lines extent so_far → suc lines ≡ number → IsLineText (text_in seed companions number)
+    → meant_at number extent (text_in seed companions number) ≡ Ok printed
+    → after number extent (text_in seed companions number) ≡ next
+    → AreRead seed companions number next (so_far ++ printed)
+one-more seed companions lines number extent next so_far printed within before is =
+    subst (λ (n : ℕ). IsLineText (text_in seed companions n)
+    → meant_at n extent (text_in seed companions n) ≡ Ok printed
+    → after n extent (text_in seed companions n) ≡ next
+    → AreRead seed companions n next (so_far ++ printed)) is more
+  where
+    more : IsLineText (text_in seed companions (suc lines))
+        → meant_at (suc lines) extent (text_in seed companions (suc lines)) ≡ Ok printed
+        → after (suc lines) extent (text_in seed companions (suc lines)) ≡ next
+        → AreRead seed companions (suc lines) next (so_far ++ printed)
+    more plain meant reaches =
+        let texts = texts_of seed companions lines in
+        let text = text_in seed companions (suc lines) in
+        let short = plain.short in
+        let few = before.few in
+        let count = before.count in
+        let end = offset texts + length text + 1 in
+        let version = version_of (reached texts) in
+        let place : length texts + 1 ≡ suc lines = omega (arith, count) in
+        let long = not-long (longest_line version) (longest_input version) (length text) end
+        (omega (arith, short, limits version)) (omega (arith, short, few, within, limits version)) in
+        let line : line_outcome replayed texts text end ≡ accepted printed =
+        short-line replayed texts text end long ∙ simp (place, before.far, meant) in
+        record {
+          far = simp (reached-push texts text, place, before.far, reaches);
+          so_far = simp (
+            outcome_from-append replayed [] texts (text ∷ []),
+            before.so_far,
+            line,
+            append-nil printed,
+          );
+          count = omega (arith, count, length-append texts (text ∷ []));
+          few = omega (arith, few, short, offset-push texts text);
+          free = free-push texts text before.free plain.free;
+        }
+
+-- ---- the header
+-- of one companion
+first-read : (seed : ℕ) → AreRead seed 1 1 (Running (header_for 1) 1 []) []
+first-read seed =
+    let some : AreSome 1 = record { low = omega arith; high = omega arith } in
+    let start = (generated_read seed).first in
+    one-more seed 1 0 1 Outset (Running (header_for 1) 1 []) [] [] (omega arith) (nothing-read seed 1) refl
+    (header-short seed 1 0 some (omega arith)) (ap (opened {T = Start}) start) (ap started start)
+
+-- the text of a line, where there are several
+text-second : (seed companions number : ℕ) → (companions ≡ 1 → ⊥)
+    → text_in seed companions number ≡ second_text seed companions number
+text-second seed companions number several = grind (arith, nat_tests)
+
+-- one companion more
+grows-read : (seed companions count : ℕ) (extent : Extent) → AreSome companions → (companions ≡ 1 → ⊥)
+    → count < companions → AreRead seed companions (suc count) (Opening (header_for count) companions) []
+    → (if suc count == companions then Running (header_for (suc count)) 2 []
+    else Opening (header_for (suc count)) companions) ≡ extent
+    → AreRead seed companions (suc (suc count)) extent []
+grows-read seed companions count extent some several early before is =
+    let high = some.high in
+    let header = header_for count in
+    let text = text_in seed companions (suc (suc count)) in
+    let place : suc (suc count) ≡ count + 1 + 1 = omega arith in
+    let number : count + 1 ≡ suc count = omega arith in
+    let next : next_companion header text ≡ Ok opening.companion =
+    ap (λ (n : ℕ). companion_of (n + 1) text) (length-replicate count opening.companion)
+    ∙ ap (companion_of (count + 1)) (text-second seed companions (suc (suc count)) several)
+    ∙ ap (λ (n : ℕ). companion_of (count + 1) (second_text seed companions n)) place
+    ∙ (second_read seed companions some).each (count + 1) (omega arith) (omega (arith, early)) in
+    let longer : with_companion header opening.companion ≡ header_for (suc count) =
+    ap (λ (list : List CompanionLine). record opening.header { companions = list })
+    (replicate_more count opening.companion ∙ ap (λ (n : ℕ). replicate n opening.companion) number) in
+    one-more seed companions (suc count) (suc (suc count)) (Opening header companions) extent [] []
+    (omega (arith, early, high)) before refl
+    (header-short seed companions (suc count) some (grind (arith, nat_tests)))
+    (ap (opened {T = CompanionLine}) next)
+    (ap (declared header companions) next
+    ∙ ap (λ (h : Header). grown h companions) longer
+    ∙ ap (λ (n : ℕ). if n == companions then Running (header_for (suc count)) 2 []
+    else Opening (header_for (suc count)) companions) (length-replicate (suc count) opening.companion)
+    ∙ is)
+
+-- line 1 and the lines of so many companions, but not of all
+opening-read : (seed companions count : ℕ) → AreSome companions → (companions ≡ 1 → ⊥) → count < companions
+    → AreRead seed companions (suc count) (Opening (header_for count) companions) []
+opening-read seed companions zero some several early =
+    let start = ap header_of (text-second seed companions 1 several) ∙ (second_read seed companions some).first in
+    one-more seed companions 0 1 Outset (Opening (header_for 0) companions) [] [] (omega arith)
+    (nothing-read seed companions) refl
+    (header-short seed companions 0 some (grind (arith, nat_tests))) (ap (opened {T = Start}) start) (ap started start)
+opening-read seed companions (suc count) some several early =
+    grows-read seed companions count (Opening (header_for (suc count)) companions) some several (omega (arith, early))
+    (opening-read seed companions count some several (omega (arith, early)))
+    (ap (λ (b : Bool). if b then Running (header_for (suc count)) 2 [] else Opening (header_for (suc count)) companions)
+    (ne_eqb (suc count) companions (λ e. omega (arith, e, early))))
+
+-- and of all
+whole-read : (seed companions : ℕ) → AreSome companions → (companions ≡ 1 → ⊥)
+    → AreRead seed companions (suc companions) (Running (header_for companions) 2 []) []
+whole-read seed zero some several = absurd (let low = some.low in omega (arith, low))
+whole-read seed (suc count) some several =
+    grows-read seed (suc count) count (Running (header_for (suc count)) 2 []) some several (omega arith)
+    (opening-read seed (suc count) count some several (omega arith))
+    (ap (λ (b : Bool). if b then Running (header_for (suc count)) 2 [] else Opening (header_for (suc count))
+    (suc count))
+    (eq-eqb (suc count) (suc count) refl))
+
+heading-read : (seed companions : ℕ) → AreSome companions
+    → AreRead seed companions (heading companions) (Running (header_for companions) (version_for companions) []) []
+heading-read seed companions some = by (companions == 1) refl
+  where
+    by : (one : Bool) → (companions == 1) ≡ one
+        → AreRead seed companions (if one then 1 else companions + 1)
+        (Running (header_for companions) (if one then 1 else 2) []) []
+    by true e =
+        subst (λ (n : ℕ). AreRead seed n 1 (Running (header_for n) 1 []) []) (sym (eqb-true companions 1 e))
+        (first-read seed)
+    by false e =
+        let number : suc companions ≡ companions + 1 = omega arith in
+        subst (λ (n : ℕ). AreRead seed companions n (Running (header_for companions) 2 []) []) number
+        (whole-read seed companions some (eqb-false companions 1 e))
+
+-- ---- the lines after it
+-- a text is read as the line
+line_read : (seed companions number : ℕ) → AreSome companions → heading companions < number → number ≤ 200000
+    → line_in (version_for companions) companions (text_in seed companions number)
+    ≡ Ok (line_for seed companions number)
+line_read seed companions number some late few = by (companions == 1) late
+  where
+    by : (one : Bool) → (if one then 1 else companions + 1) < number
+        → line_in (if one then 1 else 2) companions
+        (if one then text_numbered seed number else second_text seed companions number)
+        ≡ Ok (if one then line_numbered seed number else second_line seed companions number)
+    by true late = (generated_read seed).others number (omega (arith, late)) few
+    by false late = (second_read seed companions some).others number (omega (arith, late)) few
 
 -- what is told at the lines after the header, so many of them
 abbrev told_after : (seed companions count : ℕ) → List Told
 told_after seed companions count = told_of (header_for companions) (generated seed companions count)
 
--- What is printed for a line after these, and that it is added to what was told; its text is short.
-record Adds (seed companions count : ℕ) : Type 0 where
-  printed : List ℕ
-  meant : text_meant (texts_of seed companions (heading companions + count))
-      (text_in seed companions (suc (heading companions + count)))
-      ≡ Ok printed
-  told : told_text (told_after seed companions (suc count)) ≡ told_text (told_after seed companions count) ++ printed
-  plain : IsLineText (text_in seed companions (suc (heading companions + count)))
-
--- so it is with each
-line-adds : (seed companions count : ℕ) → AreSome companions → heading companions + suc count ≤ 200000
-    → suc count < 200000 → Adds seed companions count
+-- reports are printed for them
+all-read : (seed companions count : ℕ) → AreSome companions → heading companions + count ≤ 200000
+    → AreRead seed companions (heading companions + count)
+    (Running (header_for companions) (version_for companions) (generated seed companions count))
+    (told_text (told_after seed companions count))
 unfolding generated
-line-adds seed companions count some within few =
+all-read seed companions zero some few =
+    let none : heading companions ≡ heading companions + 0 = omega arith in
+    subst (λ (n : ℕ). AreRead seed companions n (Running (header_for companions) (version_for companions) []) []) none
+    (heading-read seed companions some)
+all-read seed companions (suc count) some few =
     let header = header_for companions in
     let version = version_for companions in
     let older = generated seed companions count in
     let number = heading companions + suc count in
     let line = line_for seed companions number in
     let now = numbered_for seed companions number in
-    let all = (generated_accepted seed companions (suc count) some few).accepted in
+    let some_heading : 1 ≤ heading companions = grind (arith, nat_tests) in
+    let all = (generated_accepted seed companions (suc count) some (omega (arith, few, some_heading))).accepted in
     let taken = all.3 in
-    let short = line_short seed companions number in
-    let next : suc (heading companions + count) ≡ number = omega arith in
+    let short = line-short seed companions number in
     let text = text_in seed companions number in
     let high = some.high in
     let who : line.who ≤ companions =
@@ -108,190 +271,35 @@ line-adds seed companions count some within few =
     printed_is header older now taken.0 (carried_ok header older now taken.0 taken.1)
     ∙ printed-told header older now line.verb short in
     let plain : IsLineText text =
-    subst IsLineText (sym (line_text seed companions number (omega arith)))
+    subst IsLineText (sym (line-text seed companions number (omega arith)))
     (line-plain version line all.0 (omega (arith, who, high)) short) in
-    record {
-      printed = taken.0;
-      meant = text-meant seed companions (heading companions + count) (Running header version older)
-          (lines-read seed companions count some (omega (arith, within)))
-          ∙ ap (λ (n : ℕ). read_meant header older n
-          (line_in version (length header.companions) (text_in seed companions n))) next
-          ∙ ap (λ (n : ℕ). read_meant header older number (line_in version n text))
-          (length-replicate companions opening.companion)
-          ∙ ap (λ (r : Result Line LineFault). read_meant header older number r)
-          (line_read seed companions number some (omega arith) within)
-          ∙ ap caused taken.1;
-      told = told_text-more (told_at header older now) (told_of header older)
-          ∙ ap (λ (p : List ℕ). told_text (told_of header older) ++ p) (sym printed);
-      plain = subst (λ (n : ℕ). IsLineText (text_in seed companions n)) (sym next) plain;
-    }
-
--- ---- one line after another
--- these texts were read, each with its line feed, and this was printed for them
-record IsRead (bytes : List ℕ) (texts : List (List ℕ)) (printed : List ℕ) : Type 0 where
-  so_far : outcome_so_far replayed bytes ≡ accepted printed
-  whole : whole_lines bytes ≡ texts
-  last : last_part bytes ≡ []
-
--- the limits of a version aren't below those of version 1
-line-limit : (version : ℕ) → 4096 ≤ longest_line version
-line-limit version = by (version == 1)
-  where
-    by : (first : Bool) → 4096 ≤ (if first then 4096 else 4352)
-    by true = omega arith
-    by false = omega arith
-
-input-limit : (version : ℕ) → 67108864 ≤ longest_input version
-input-limit version = by (version == 1)
-  where
-    by : (first : Bool) → 67108864 ≤ (if first then 67108864 else 134217728)
-    by true = omega arith
-    by false = omega arith
-
--- a line that is short enough, of an input that is, isn't refused for its length
-fits : (texts : List (List ℕ)) (text printed : List ℕ) → length text ≤ 4096
-    → offset texts + length text + 1 ≤ 67108864 → text_meant texts text ≡ Ok printed
-    → line_outcome replayed texts text (offset texts + length text + 1) ≡ accepted printed
-fits texts text printed short few meant =
-    let version = version_of (reached texts) in
-    let end = offset texts + length text + 1 in
-    let number = length texts + 1 in
-    let outcome_by : Bool → Outcome Cause =
-    λ b. cond b (refused_at [] number Long) (reader_outcome number (text_meant texts text)) in
-    let line_fits : ltb (longest_line version) (length text) ≡ false =
-    le-ltb (longest_line version) (length text) (omega (arith, line-limit version, short)) in
-    let input_fits : ltb (longest_input version) end ≡ false =
-    le-ltb (longest_input version) end (omega (arith, input-limit version, few)) in
-    ap (λ (b : Bool). outcome_by (b || ltb (longest_input version) end)) line_fits
-    ∙ ap outcome_by input_fits
-    ∙ ap (reader_outcome number) meant
-
--- one line more
-reads_on : (bytes : List ℕ) (texts : List (List ℕ)) (so_far text printed : List ℕ) → IsRead bytes texts so_far
-    → IsLineText text → offset texts + length text + 1 ≤ 67108864 → text_meant texts text ≡ Ok printed
-    → IsRead (bytes ++ (text ++ 10 ∷ [])) (texts ++ text ∷ []) (so_far ++ printed)
-reads_on bytes texts so_far text printed read plain few meant =
-    let line = bytes ++ text in
-    let joined : bytes ++ (text ++ 10 ∷ []) ≡ line ++ 10 ∷ [] = sym (append_assoc bytes text (10 ∷ [])) in
-    let whole : whole_lines line ≡ texts = whole_lines_free bytes text plain.free ∙ read.whole in
-    let last : last_part line ≡ text =
-    last_part_free bytes text plain.free ∙ ap (λ (l : List ℕ). l ++ text) read.last in
-    let before : outcome_so_far replayed line ≡ accepted so_far =
-    so_far_free replayed bytes text plain.free ∙ read.so_far in
-    record {
-      so_far = ap (outcome_so_far replayed) joined ∙ so_far_feed replayed line 10 refl
-          ∙ ap (λ (o : Outcome Cause). followed_by o (line_outcome replayed (whole_lines line) (last_part line)
-          (offset (whole_lines line) + length (last_part line) + 1))) before
-          ∙ ap (λ (w : List (List ℕ)). followed_by (accepted so_far) (line_outcome replayed w (last_part line)
-          (offset w + length (last_part line) + 1))) whole
-          ∙ ap (λ (l : List ℕ). followed_by (accepted so_far) (line_outcome replayed texts l
-          (offset texts + length l + 1))) last
-          ∙ ap (followed_by (accepted so_far)) (fits texts text printed (omega (arith, plain.short)) few meant);
-      whole = ap whole_lines joined ∙ whole_lines_feed line 10 refl
-          ∙ ap (λ (w : List (List ℕ)). w ++ last_part line ∷ []) whole ∙ ap (λ (l : List ℕ). texts ++ l ∷ []) last;
-      last = ap last_part joined ∙ last_part_feed line 10 refl;
-    }
-
--- so many lines were read, for which this was printed, and they aren't long
-record AllRead (seed companions lines : ℕ) (printed : List ℕ) : Type 0 where
-  read : IsRead (schedule_text seed companions lines) (texts_of seed companions lines) printed
-  few : offset (texts_of seed companions lines) ≤ 300 * lines
-
-nothing-read : (seed companions : ℕ) → AllRead seed companions 0 []
-unfolding outcome_so_far
-nothing-read seed companions = record {
-  read = record {
-    so_far = ap (outcome_from replayed []) (whole_lines_is []);
-    whole = whole_lines_is [];
-    last = last_part_is [];
-  };
-  few = omega arith;
-}
-
-offset-more : (texts : List (List ℕ)) (text : List ℕ) → length text ≤ 299
-    → offset (texts ++ text ∷ []) ≤ offset texts + 300
-offset-more texts text short =
-    omega (
-      arith,
-      sum_by-append (λ (line : List ℕ). length line + 1) texts (text ∷ []),
-      sum_by-cons (λ (line : List ℕ). length line + 1) text [],
-      short,
-    )
-
-one-more : (seed companions lines : ℕ) (so_far printed : List ℕ) → lines < 200000
-    → AllRead seed companions lines so_far → IsLineText (text_in seed companions (suc lines))
-    → text_meant (texts_of seed companions lines) (text_in seed companions (suc lines)) ≡ Ok printed
-    → AllRead seed companions (suc lines) (so_far ++ printed)
-one-more seed companions lines so_far printed within before plain meant =
-    let texts = texts_of seed companions lines in
-    let text = text_in seed companions (suc lines) in
-    let short = plain.short in
-    let few = before.few in
-    let longer : offset (texts ++ text ∷ []) ≤ offset texts + 300 = offset-more texts text short in
-    record {
-      read = reads_on (schedule_text seed companions lines) texts so_far text printed before.read plain
-          (omega (arith, few, short, within)) meant;
-      few = omega (arith, few, longer);
-    }
-
--- nothing is printed for the lines of the header
-header-read : (seed companions lines : ℕ) → AreSome companions → lines ≤ heading companions
-    → heading companions ≤ 200000 → AllRead seed companions lines []
-header-read seed companions zero some within few = nothing-read seed companions
-header-read seed companions (suc before) some within few =
-    one-more seed companions before [] [] (omega (arith, within, few))
-    (header-read seed companions before some (omega (arith, within)) few)
-    (header_short seed companions before some (omega (arith, within)))
-    (header_silent seed companions before some (omega (arith, within)))
-
--- a header has a line
-some-heading : (companions : ℕ) → 1 ≤ heading companions
-some-heading companions = by (companions == 1)
-  where
-    by : (one : Bool) → 1 ≤ (if one then 1 else companions + 1)
-    by true = omega arith
-    by false = omega arith
-
--- reports are printed for those after it
-all-read : (seed companions count : ℕ) → AreSome companions → heading companions + count ≤ 200000
-    → AllRead seed companions (heading companions + count) (told_text (told_after seed companions count))
-unfolding generated
-all-read seed companions zero some few =
-    let none : heading companions ≡ heading companions + 0 = omega arith in
-    subst (λ (n : ℕ). AllRead seed companions n []) none
-    (header-read seed companions (heading companions) some (omega arith) (omega (arith, few)))
-all-read seed companions (suc count) some few =
-    let low = some-heading companions in
-    let adds = line-adds seed companions count some few (omega (arith, few, low)) in
-    let number : suc (heading companions + count) ≡ heading companions + suc count = omega arith in
-    let more = one-more seed companions (heading companions + count) (told_text (told_after seed companions count))
-    adds.printed (omega (arith, few)) (all-read seed companions count some (omega (arith, few))) adds.plain
-    adds.meant in
-    let told = subst (AllRead seed companions (suc (heading companions + count))) (sym adds.told) more in
-    subst (λ (n : ℕ). AllRead seed companions n (told_text (told_after seed companions (suc count)))) number told
+    let read : line_in version (length header.companions) text ≡ Ok line =
+    ap (λ (n : ℕ). line_in version n text) (length-replicate companions opening.companion)
+    ∙ line_read seed companions number some (omega arith) few in
+    let told : told_text (told_after seed companions count) ++ taken.0
+    ≡ told_text (told_after seed companions (suc count)) =
+    ap (λ (p : List ℕ). told_text (told_of header older) ++ p) printed
+    ∙ sym (told_text-more (told_at header older now) (told_of header older)) in
+    subst (AreRead seed companions number (Running header version (generated seed companions (suc count)))) told
+    (one-more seed companions (heading companions + count) number (Running header version older)
+    (Running header version (now ∷ older)) (told_text (told_after seed companions count)) taken.0 (omega (arith, few))
+    (all-read seed companions count some (omega (arith, few))) (omega arith) plain
+    (ap (λ (r : Result Line LineFault). read_meant header older number r) read ∙ ap caused taken.1)
+    (ap (λ (r : Result Line LineFault). Running header version (with_line number older r)) read))
 
 -- ---- the whole
--- all that was read ends as it should
-all-accepted : (seed companions count : ℕ) → AreSome companions → heading companions + count ≤ 200000
-    → outcome replayed (schedule_text seed companions (heading companions + count))
-    ≡ accepted (told_text (told_after seed companions count))
-all-accepted seed companions count some few =
-    let bytes = schedule_text seed companions (heading companions + count) in
-    let texts = texts_of seed companions (heading companions + count) in
-    let told = told_text (told_after seed companions count) in
-    let read = (all-read seed companions count some few).read in
-    let whole : ended_at (reached texts) ≡ Ok [] = ap ended_at (lines-read seed companions count some few) in
-    outcome_at_end replayed bytes
-    ∙ ap (λ (o : Outcome Cause). followed_by o (end_outcome replayed (whole_lines bytes) (last_part bytes)))
-    read.so_far
-    ∙ ap (λ (w : List (List ℕ)). followed_by (accepted told) (end_outcome replayed w (last_part bytes))) read.whole
-    ∙ ap (λ (l : List ℕ). followed_by (accepted told) (end_outcome replayed texts l)) read.last
-    ∙ ap (λ (r : Result (List ℕ) Cause). followed_by (accepted told) (reader_outcome (length texts + 1) r)) whole
-    ∙ ap accepted (append-nil told)
-
 pub generated_replayed : GeneratedSchedulesAreReplayed
 unfolding told_in
 generated_replayed seed companions lines some enough few =
-    let all : heading companions + (lines - heading companions) ≡ lines = omega (arith, enough) in
+    let count = lines - heading companions in
+    let all : heading companions + count ≡ lines = omega (arith, enough) in
+    let texts = texts_of seed companions (heading companions + count) in
+    let read = all-read seed companions count some (omega (arith, enough, few)) in
+    let told = told_text (told_after seed companions count) in
     ap (λ (n : ℕ). outcome replayed (schedule_text seed companions n)) (sym all)
-    ∙ all-accepted seed companions (lines - heading companions) some (omega (arith, enough, few))
+    ∙ ap (outcome replayed) (schedule-texts seed companions (heading companions + count))
+    ∙ joined-outcome replayed texts read.free
+    ∙ ap (λ (o : Outcome Cause). followed_by o (reader_outcome (length texts + 1) (ended_at (reached texts))))
+    read.so_far
+    ∙ ap (λ (x : Extent). followed_by (accepted told) (reader_outcome (length texts + 1) (ended_at x))) read.far
+    ∙ ap accepted (append-nil told)

@@ -1,10 +1,13 @@
 -- An input as steps: each line with the number of its line feeds, which the last line may lack.
-use Rattle.std.proofs.Common.{◌≡◌, ℕ, ◌+◌, ap, sym, ◌∙◌, refl, Bool, true, false, cond, List, [], ◌∷◌}
+use Rattle.std.proofs.Common.{◌≡◌, ℕ, ◌+◌, ◌≤◌, ap, sym, subst, ◌∙◌, refl, Bool, true, false, cond, List, [], ◌∷◌}
 use Rattle.std.proofs.Common.{◌++◌, length, map}
-use Rattle.std.proofs.Common.{append_assoc, append-nil, arith}
-use Rattle.std.specs.Prelude.{Option, Some, None, Result, Ok, Err}
-use Rattle.std.specs.List.{flat_map}
-use Rattle.css_lines.specs.Lines.{whole_lines, last_part}
+use Rattle.std.proofs.Common.{append_assoc, append-nil, arith, ltb}
+use Rattle.std.specs.Prelude.{Option, Some, None, Result, Ok, Err, not, ◌||◌}
+use Rattle.std.specs.List.{flat_map, list_all}
+use Rattle.std.proofs.lemmas.List.Elements.{All-nil, All-push, All-weaker}
+use Rattle.std.proofs.lemmas.List.Sums.{AllPass-from_list_all, sum_by_push}
+use Rattle.std.proofs.lemmas.Bool.Decides.{nat_tests}
+use Rattle.css_lines.specs.Lines.{is_feed, whole_lines, last_part}
 use Rattle.css_lines.specs.Progress.{HasNoFeed}
 use Rattle.css_lines.specs.Meaning.{Meaning, Outcome, refused_at, followed_from, followed_by, offset, is_long}
 use Rattle.css_lines.specs.Meaning.{reader_outcome, line_outcome, outcome_from, finish_outcome, end_outcome, outcome}
@@ -41,12 +44,8 @@ end-ran : {C : Type 0} (meaning : Meaning C) (before : List (List ℕ)) (last : 
     → end_outcome meaning before last ≡ ran meaning before (unfed last)
 end-ran meaning before [] = refl
 end-ran meaning before (byte ∷ bytes) =
-    let line = byte ∷ bytes in
-    ap (λ (e : ℕ). followed_by (line_outcome meaning before line e) (finish_outcome meaning (before ++ line ∷ [])))
-    (sym (plus_none (offset before + length line)))
-  where
-    plus_none : (n : ℕ) → n + 0 ≡ n
-    plus_none n = omega arith
+    let e : offset before + length (byte ∷ bytes) + 0 ≡ offset before + length (byte ∷ bytes) = omega arith in
+    simp e
 
 run-ran : {C : Type 0} (meaning : Meaning C) (before lines : List (List ℕ)) (last : List ℕ)
     → followed_by (outcome_from meaning before lines) (end_outcome meaning (before ++ lines) last)
@@ -68,6 +67,16 @@ unfolding outcome
 outcome-ran meaning bytes = run-ran meaning [] (whole_lines bytes) (last_part bytes)
 
 -- ---- lines joined
+-- no line feed stands in bytes, by a test
+pub free-by : (bytes : List ℕ) → list_all (λ byte. not (is_feed byte)) bytes ≡ true → HasNoFeed bytes
+free-by bytes test =
+    All-weaker (λ byte. not (is_feed byte) ≡ true) (λ byte. is_feed byte ≡ false) (λ byte h. other (is_feed byte) h)
+    bytes (AllPass-from_list_all (λ byte. not (is_feed byte)) bytes test)
+  where
+    other : (feed : Bool) → not feed ≡ true → feed ≡ false
+    other true h = absurd (cc)
+    other false h = refl
+
 -- these lines, each with its line feed
 abbrev pub joined : List (List ℕ) → List ℕ
 joined lines = flat_map (λ line. line ++ 10 ∷ []) lines
@@ -96,14 +105,53 @@ steps-fed [] = refl
 steps-fed (line ∷ lines) = ap (λ (s : List (List ℕ × ℕ)). with_feed line ∷ s) (steps-fed lines)
 
 -- what becomes of them
+pub joined-outcome : {C : Type 0} (meaning : Meaning C) (lines : List (List ℕ)) → AreFree lines
+    → outcome meaning (joined lines) ≡ followed_by (outcome_from meaning [] lines) (finish_outcome meaning lines)
+unfolding outcome
+joined-outcome meaning lines free =
+    rw (
+      whole_lines_is (joined lines) ∙ joined-whole lines free,
+      last_part_is (joined lines) ∙ joined-last lines free,
+    ) refl
+
 pub joined-ran : {C : Type 0} (meaning : Meaning C) (lines : List (List ℕ)) → AreFree lines
     → outcome meaning (joined lines) ≡ ran meaning [] (map with_feed lines)
 joined-ran meaning lines free =
-    outcome-ran meaning (joined lines)
-    ∙ ap (λ (w : List (List ℕ)). ran meaning [] (steps_of w (last_part (joined lines))))
-    (whole_lines_is (joined lines) ∙ joined-whole lines free)
-    ∙ ap (λ (l : List ℕ). ran meaning [] (steps_of lines l)) (last_part_is (joined lines) ∙ joined-last lines free)
-    ∙ ap (ran meaning []) (steps-fed lines)
+    joined-outcome meaning lines free ∙ run-ran meaning [] lines [] ∙ ap (ran meaning []) (steps-fed lines)
+
+-- ---- no line feed stands in a step
+abbrev pub AreFreeSteps : List (List ℕ × ℕ) → Type 0
+AreFreeSteps [] = Unit {0}
+AreFreeSteps (step ∷ steps) = HasNoFeed step.0 × AreFreeSteps steps
+
+steps-free : (lines : List (List ℕ)) (last : List ℕ) → AreFree lines → HasNoFeed last
+    → AreFreeSteps (steps_of lines last)
+steps-free [] [] free end = tt
+steps-free [] (byte ∷ bytes) free end = (end, tt)
+steps-free (line ∷ lines) last free end = (free.0, steps-free lines last free.1 end)
+
+-- since none stands in a part that bytes are cut into
+cut-free : (part bytes : List ℕ) → HasNoFeed part
+    → AreFree (whole_from part bytes) × HasNoFeed (last_from part bytes)
+cut-free part [] free = (tt, free)
+cut-free part (byte ∷ bytes) free =
+    by (is_feed byte) refl (cut-free [] bytes (All-nil (λ b. is_feed b ≡ false)))
+    (λ e. cut-free (part ++ byte ∷ []) bytes (All-push (λ b. is_feed b ≡ false) part byte free e))
+  where
+    by : (feed : Bool) → is_feed byte ≡ feed
+        → AreFree (whole_from [] bytes) × HasNoFeed (last_from [] bytes)
+        → (is_feed byte ≡ false → AreFree (whole_from (part ++ byte ∷ []) bytes)
+        × HasNoFeed (last_from (part ++ byte ∷ []) bytes))
+        → AreFree (cond feed (part ∷ whole_from [] bytes) (whole_from (part ++ byte ∷ []) bytes))
+        × HasNoFeed (cond feed (last_from [] bytes) (last_from (part ++ byte ∷ []) bytes))
+    by true e after longer = ((free, after.0), after.1)
+    by false e after longer = longer e
+
+pub input-free : (bytes : List ℕ) → AreFreeSteps (steps_of (whole_lines bytes) (last_part bytes))
+input-free bytes =
+    let cut = cut-free [] bytes (All-nil (λ b. is_feed b ≡ false)) in
+    steps-free (whole_lines bytes) (last_part bytes) (subst AreFree (sym (whole_lines_is bytes)) cut.0)
+    (subst HasNoFeed (sym (last_part_is bytes)) cut.1)
 
 -- ---- what is accepted
 -- where nothing is refused of one outcome after another, nothing is of both
@@ -136,6 +184,18 @@ line-taken {C = C} meaning before line end e =
 pub short-line : {C : Type 0} (meaning : Meaning C) (before : List (List ℕ)) (line : List ℕ) (end : ℕ)
     → is_long meaning before line end ≡ false
     → line_outcome meaning before line end ≡ reader_outcome (length before + 1) (meaning.line before line)
-short-line meaning before line end short =
-    ap (λ (b : Bool). cond b (refused_at [] (length before + 1) Long)
-    (reader_outcome (length before + 1) (meaning.line before line))) short
+short-line meaning before line end short = simp short
+
+-- ---- limits
+pub offset-push : (lines : List (List ℕ)) (line : List ℕ)
+    → offset (lines ++ line ∷ []) ≡ offset lines + (length line + 1)
+offset-push lines line = sum_by_push (λ (l : List ℕ). length l + 1) lines line
+
+-- a line that isn't too long, of an input that isn't
+pub within : (most most_input line end : ℕ) → (ltb most line || ltb most_input end) ≡ false
+    → (line ≤ most) × (end ≤ most_input)
+within most most_input line end e = (grind (arith, nat_tests), grind (arith, nat_tests))
+
+pub not-long : (most most_input line end : ℕ) → line ≤ most → end ≤ most_input
+    → (ltb most line || ltb most_input end) ≡ false
+not-long most most_input line end a b = grind (arith, nat_tests)

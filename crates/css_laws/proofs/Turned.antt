@@ -1,203 +1,186 @@
--- One line of a schedule and what it becomes: a replay reads both as the same line.
-use Rattle.std.proofs.Common.{◌≡◌, ℕ, ◌+◌, ◌*◌, ◌≤◌, arith, ap, sym, ◌∙◌, refl, Bool, true, false}
-use Rattle.std.proofs.Common.{ltb, List, [], ◌∷◌, ◌++◌, length}
-use Rattle.std.specs.Prelude.{Option, Some, None, Result, Ok, Err, ◌||◌, decimal}
-use Rattle.std.specs.Option.{option_map}
-use Rattle.std.proofs.lemmas.Bool.{le-ltb, ltb-false}
-use Rattle.std.proofs.lemmas.List.Sums.{sum_by-append, sum_by-cons}
-use Rattle.css_lines.specs.Meaning.{Outcome, accepted, refused_at, followed_from, followed_by, offset, is_long}
-use Rattle.css_lines.specs.Meaning.{reader_outcome, line_outcome}
+-- What a line and a header of version 1 become is read as the same line and as the same header, has no line feed, and
+-- is little longer.
+use Rattle.std.proofs.Common.{◌≡◌, ℕ, ◌+◌, ◌*◌, ◌≤◌, arith, ap, sym, ◌∙◌, refl, false, List, [], ◌∷◌, ◌++◌, length}
+use Rattle.std.proofs.Common.{append_assoc}
+use Rattle.std.specs.Prelude.{Ok, codes}
+use Rattle.std.specs.List.{position_or_len}
+use Rattle.std.proofs.lemmas.List.{length-append}
+use Rattle.std.proofs.lemmas.List.Elements.{All-nil, All-cons, All-append, All-take, All-drop}
+use Rattle.std.proofs.lemmas.List.Splits.{slice_split_at}
+use Rattle.css_lines.specs.Lines.{is_feed}
 use Rattle.css_lines.specs.Progress.{HasNoFeed}
-use Rattle.css_lines.specs.declared.reader.Refusal.{Refusal}
-use Rattle.css_lines.specs.declared.reader.Refusal.TheVariants.{Refused}
-use Rattle.css_schedule.specs.declared.fault.LineFault.{LineFault}
+use Rattle.css_schedule.proofs.Steps.{ok-range}
+use Rattle.css_schedule.specs.declared.header.CompanionLine.{CompanionLine}
 use Rattle.css_schedule.specs.declared.header.Header.{Header}
+use Rattle.css_schedule.specs.declared.header.Start.TheVariants.{One, Two}
 use Rattle.css_schedule.specs.declared.line.Line.{Line}
-use Rattle.css_schedule.specs.Headers.{max_companions}
-use Rattle.css_schedule.specs.Lines.{line_of, line_in}
-use Rattle.css_printed.specs.Printed.{verb_words, line_text_in}
-use Rattle.css_schedule.specs.Ranges.{IsLine, IsSecond}
-use Rattle.css_schedule.proofs.InRange.{lines_are_in_range}
-use Rattle.css_printed.proofs.ReadBack.{line_back_in}
-use Rattle.css_printed.proofs.Spaced.{line-free, decimal-solid}
-use Rattle.css_printed.proofs.VerbsBack.{reading-solid, verb-solid}
-use Rattle.css_migrate.specs.Migrated.{fed, line_becomes, migrated}
-use Rattle.css_world.specs.Happened.{Numbered}
-use Rattle.css_world.specs.Verdicts.{line_meant}
-use Rattle.css_world.specs.declared.fault.WorldFault.{WorldFault}
-use Rattle.css_world.specs.declared.fault.WorldFault.TheVariants as world
-use Rattle.css_replay.specs.declared.reader.Cause.{Cause}
-use Rattle.css_replay.specs.declared.reader.Cause.TheVariants.{Form, Absent, Player, Broken}
-use Rattle.css_replay.specs.Replayed.{Extent, Running, after, caused, longest_input, longest_line, meant_at, reached}
-use Rattle.css_replay.specs.Replayed.{read_meant, replayed, version_of}
-use Rattle.css_laws.specs.Numbers.{raised_lines, raised_print, raised_result}
-use Rattle.css_laws.specs.Raised.{raised_verdict, raised}
-use Rattle.css_laws.proofs.Fed.{IsWhole, PrintsWhole, nothing-whole, raised_print-append}
-use Rattle.css_laws.proofs.Printing.{raised_print-nil}
-use Rattle.css_laws.proofs.Runs.{short-line}
+use Rattle.css_schedule.specs.Words.{is_space, words_of}
+use Rattle.css_schedule.specs.Lines as lines
+use Rattle.css_schedule.specs.Lines.{line_of_words, line_of, line_in}
+use Rattle.css_schedule.specs.Headers.{companion_of_words, header_of_words, header_of, companion_of}
+use Rattle.css_schedule.specs.Headers.{numbered_of_words, with_companion}
+use Rattle.css_migrate.specs.Migrated.{first_word, other_words, later_words, three_words, fed, line_turned}
+use Rattle.css_migrate.specs.Migrated.{header_turned}
+use Rattle.css_laws.proofs.Cuts.{cut-words, cut-size}
+use Rattle.css_laws.proofs.Read.{AreLine, line-words}
+use Rattle.css_laws.proofs.ReadHeaders.{AreHeader, AreStart, header-words, has-byte}
+use Rattle.css_laws.proofs.Runs.{free-by, joined}
 
--- ---- outcomes
--- one outcome after another
-raised-from : (printed : List ℕ) (verdict : Option (ℕ × Refusal Cause)) (next : Outcome Cause) → IsWhole printed
-    → followed_from (raised_print printed) (option_map raised_verdict verdict) (raised next)
-    ≡ raised (followed_from printed verdict next)
-raised-from printed None next whole =
-    ap (λ (p : List ℕ). record { printed = p; verdict = option_map raised_verdict next.verdict })
-    (sym (raised_print-append printed next.printed whole))
-raised-from printed (Some verdict) next whole = refl
+-- ---- line feeds
+-- where no line feed stands in a text, none stands in its words
+first-free : (text : List ℕ) → HasNoFeed text → HasNoFeed (first_word text)
+first-free text free = All-take (λ byte. is_feed byte ≡ false) (position_or_len is_space text) text free
 
-pub raised-followed : (first next : Outcome Cause) → IsWhole first.printed
-    → followed_by (raised first) (raised next) ≡ raised (followed_by first next)
-raised-followed first next whole = raised-from first.printed first.verdict next whole
+others-free : (text : List ℕ) → HasNoFeed text → HasNoFeed (other_words text)
+others-free text free = All-drop (λ byte. is_feed byte ≡ false) (position_or_len is_space text + 1) text free
 
--- nothing is printed and nothing is refused
-pub raised-nothing : raised (accepted []) ≡ accepted []
-raised-nothing = ap accepted raised_print-nil
+later-free : (text : List ℕ) → HasNoFeed text → HasNoFeed (later_words text)
+later-free text free = others-free (other_words text) (others-free text free)
 
--- ---- a line that is read
-pub caused-raised : (number : ℕ) (result : Result (List ℕ) WorldFault)
-    → reader_outcome (number + 1) (caused (raised_result result)) ≡ raised (reader_outcome number (caused result))
-caused-raised number (Ok printed) = refl
-caused-raised number (Err (world.Broken earlier excess)) =
-    ap (λ (p : List ℕ). refused_at p (number + 1) (Refused (Broken (earlier + 1) excess))) (sym raised_print-nil)
-caused-raised number (Err world.Absent) =
-    ap (λ (p : List ℕ). refused_at p (number + 1) (Refused Absent)) (sym raised_print-nil)
-caused-raised number (Err (world.Player fault)) =
-    ap (λ (p : List ℕ). refused_at p (number + 1) (Refused (Player fault))) (sym raised_print-nil)
-caused-raised number (Err world.Memory) =
-    ap (λ (p : List ℕ). refused_at p (number + 1) (Refused Form)) (sym raised_print-nil)
+-- nor in a text and another one
+both-free : (a b : List ℕ) → HasNoFeed a → HasNoFeed b → HasNoFeed (a ++ b)
+both-free a b = All-append (λ byte. is_feed byte ≡ false) a b
 
-pub caused-whole : (number : ℕ) (result : Result (List ℕ) WorldFault) → PrintsWhole result
-    → IsWhole (reader_outcome number (caused result)).printed
-caused-whole number (Ok printed) whole = whole
-caused-whole number (Err (world.Broken earlier excess)) whole = nothing-whole
-caused-whole number (Err world.Absent) whole = nothing-whole
-caused-whole number (Err (world.Player fault)) whole = nothing-whole
-caused-whole number (Err world.Memory) whole = nothing-whole
+space-free : (b : List ℕ) → HasNoFeed b → HasNoFeed (32 ∷ b)
+space-free b = All-cons (λ byte. is_feed byte ≡ false) 32 b refl
 
--- ---- where a replay is
--- Both replays are after the header: that of the schedule after lines of version 1, and that of the migrated one after
--- the same lines of version 2, the number of each of which is raised by one.
-pub record Follows (before after : List (List ℕ)) (header : Header) (lines : List Numbered) : Type 0 where
-  pub first : reached before ≡ Running header 1 lines
-  pub second : reached after ≡ Running header 2 (raised_lines lines)
-  pub one : length header.companions ≡ 1
-  pub count : length after ≡ length before + 1
-  pub small : offset after ≤ 2 * offset before
-  pub rest : (text : List ℕ) → migrated.line before text ≡ line_becomes (line_of text)
+one-free : (b : List ℕ) → HasNoFeed b → HasNoFeed (32 ∷ 49 ∷ b)
+one-free b free = space-free (49 ∷ b) (All-cons (λ byte. is_feed byte ≡ false) 49 b refl free)
 
--- A text of version 2 is little longer than that of version 1: at most 256 bytes longer, and at most twice as long,
--- each with its line feed.
-pub record GrowsLittle (before after : ℕ) : Type 0 where
-  pub twice : after + 1 ≤ 2 * before
-  pub most : after ≤ before + 256
+-- ---- lines
+-- what becomes of a line
+pub record IsTurned (text : List ℕ) (line : Line) : Type 0 where
+  pub back : line_in 2 1 (line_turned text) ≡ Ok line
+  pub free : HasNoFeed (line_turned text)
+  pub size : length (line_turned text) ≡ length text + 2
+  pub least : 3 ≤ length text
 
--- what a line becomes is little longer
-abbrev pub LinesGrowLittle : Type 0
-LinesGrowLittle = (text : List ℕ) (line : Line) → line_of text ≡ Ok line
-    → GrowsLittle (length text) (length (line_text_in 2 line))
+pub line-turned : (text : List ℕ) (line : Line) → HasNoFeed text → line_of text ≡ Ok line → IsTurned text line
+line-turned text line free e =
+    let is : AreLine (words_of text) line =
+    ok-range (AreLine (words_of text)) (line_of_words (words_of text)) line (line-words (words_of text)) e in
+    let a = first_word text in
+    let b = first_word (other_words text) in
+    let rest = later_words text in
+    let one = cut-words text is.t is.w (is.l ∷ is.name ∷ is.operands) is.are in
+    let two = cut-words (other_words text) is.w is.l (is.name ∷ is.operands) one.rest in
+    let three = cut-words rest is.l is.name is.operands two.rest in
+    let last = 32 ∷ 49 ∷ 32 ∷ rest in
+    let words : words_of (line_turned text) ≡ a ∷ b ∷ codes "1" ∷ words_of rest =
+    slice_split_at is_space a 32 (b ++ last) one.free refl
+    ∙ ap (λ (w : List (List ℕ)). a ∷ w) (slice_split_at is_space b 32 (49 ∷ 32 ∷ rest) two.free refl) in
+    let same : a ∷ b ∷ codes "1" ∷ words_of rest ≡ is.t ∷ is.w ∷ codes "1" ∷ is.l ∷ is.name ∷ is.operands =
+    cc (one.first, two.first, two.rest) in
+    let sizes_one = cut-size text is.t _ one in
+    let sizes_two = cut-size (other_words text) is.w _ two in
+    let sizes_three = cut-size rest is.l _ three in
+    record {
+      back = ap (lines.second_of_words 1) (words ∙ same) ∙ is.second;
+      free = both-free a (32 ∷ (b ++ last)) (first-free text free) (space-free (b ++ last)
+          (both-free b last (first-free (other_words text) (others-free text free))
+          (one-free (32 ∷ rest) (space-free rest (later-free text free)))));
+      size = omega (
+        arith,
+        sizes_one,
+        sizes_two,
+        length-append a (32 ∷ (b ++ last)),
+        length-append b last,
+      );
+      least = omega (arith, sizes_one, sizes_two, sizes_three);
+    }
 
--- there are no more lines than bytes
-pub lines-few : (lines : List (List ℕ)) → length lines ≤ offset lines
-lines-few [] = omega arith
-lines-few (line ∷ lines) =
-    omega (arith, lines-few lines, sum_by-cons (λ (l : List ℕ). length l + 1) line lines)
+-- ---- headers
+-- the two lines that a header becomes
+abbrev pub start_line : List ℕ → List ℕ
+start_line text = codes "css-schedule 2 " ++ (three_words (later_words text) ++ codes " 1")
 
-pub offset-push : (lines : List (List ℕ)) (line : List ℕ)
-    → offset (lines ++ line ∷ []) ≡ offset lines + (length line + 1)
-offset-push lines line =
-    omega (
-      arith,
-      sum_by-append (λ (l : List ℕ). length l + 1) lines (line ∷ []),
-      sum_by-cons (λ (l : List ℕ). length l + 1) line [],
-    )
+abbrev pub companion_line : List ℕ → List ℕ
+companion_line text = codes "companion 1 " ++ other_words (later_words (later_words text))
 
--- a line that isn't too long, of an input that isn't
-pub within : (most most_input line end : ℕ) → (ltb most line || ltb most_input end) ≡ false
-    → (line ≤ most) × (end ≤ most_input)
-within most most_input line end e = by (ltb most line) refl (ltb most_input end) refl e
+pub header-lines : (text : List ℕ) → fed (header_turned text) ≡ joined (start_line text ∷ companion_line text ∷ [])
+header-lines text =
+    by (three_words (later_words text)) (other_words (later_words (later_words text)))
   where
-    by : (a : Bool) → ltb most line ≡ a → (b : Bool) → ltb most_input end ≡ b → (a || b) ≡ false
-        → (line ≤ most) × (end ≤ most_input)
-    by true x b y p = absurd (cc)
-    by false x true y p = absurd (cc)
-    by false x false y p = (ltb-false most line x, ltb-false most_input end y)
+    by : (a b : List ℕ)
+        → (codes "css-schedule 2 " ++ a ++ (codes " 1" ++ 10 ∷ codes "companion 1 ") ++ b) ++ 10 ∷ []
+        ≡ joined ((codes "css-schedule 2 " ++ (a ++ codes " 1")) ∷ (codes "companion 1 " ++ b) ∷ [])
+    by a b = simp append_assoc
 
-pub not-long : (most most_input line end : ℕ) → line ≤ most → end ≤ most_input
-    → (ltb most line || ltb most_input end) ≡ false
-not-long most most_input line end a b =
-    ap (λ (c : Bool). c || ltb most_input end) (le-ltb most line a) ∙ le-ltb most_input end b
+-- what becomes of a header
+pub record IsOpened (text : List ℕ) (header : Header) : Type 0 where
+  pub bare : Header
+  pub companion : CompanionLine
+  pub start : header_of (start_line text) ≡ Ok (Two bare 1)
+  pub next : companion_of 1 (companion_line text) ≡ Ok companion
+  pub alone : bare.companions ≡ []
+  pub whole : with_companion bare companion ≡ header
+  pub first : HasNoFeed (start_line text)
+  pub second : HasNoFeed (companion_line text)
+  pub first_fits : length (start_line text) ≤ length text
+  pub second_fits : length (companion_line text) ≤ length text
+  pub twice : length (start_line text) + length (companion_line text) + 2 ≤ 2 * length text
 
--- ---- what a line becomes
--- the line that is read, and its text of version 2
-pub record IsTurned (text printed : List ℕ) : Type 0 where
-  pub line : Line
-  pub read : line_of text ≡ Ok line
-  pub becomes : printed ≡ fed (line_text_in 2 line)
-  pub free : HasNoFeed (line_text_in 2 line)
-  pub back : line_in 2 1 (line_text_in 2 line) ≡ Ok line
-
-line-no_feed : (line : Line) → IsLine line → line.who ≡ 1 → HasNoFeed (line_text_in 2 line)
-line-no_feed line range who =
-    line-free (decimal line.t) (decimal line.w ∷ decimal line.who ∷ decimal line.l ∷ verb_words line.verb)
-    (reading-solid line.t range.t) (
-      reading-solid line.w range.w,
-      (
-        decimal-solid line.who (omega (arith, who)),
-        (reading-solid line.l range.l, verb-solid line.verb range.verb),
-      ),
-    )
-
-pub turned : (text printed : List ℕ) → line_becomes (line_of text) ≡ Ok printed → IsTurned text printed
-turned text printed e = by (line_of text) refl e
-  where
-    by : (answer : Result Line LineFault) → line_of text ≡ answer → line_becomes answer ≡ Ok printed
-        → IsTurned text printed
-    by (Err fault) same p = absurd (cc)
-    by (Ok line) same p =
-        let is = lines_are_in_range text line same in
-        let who : line.who ≡ 1 = is.of.who in
-        let second : IsSecond max_companions line = record {
-          who = omega (arith, who);
-          own = λ o. omega (arith, who);
-          none = λ z. absurd (omega (arith, who, z));
-        } in
-        record {
-          line = line;
-          read = same;
-          becomes = cc p;
-          free = line-no_feed line is.range who;
-          back = line_back_in 2 line (line_text_in 2 line) is.range second refl 1 (omega (arith, who)) (omega arith);
-        }
-
--- a replay of the schedule at the line
-pub first-line : (before after : List (List ℕ)) (header : Header) (lines : List Numbered) (text : List ℕ) (line : Line)
-    (end : ℕ) → Follows before after header lines → is_long migrated before text end ≡ false → line_of text ≡ Ok line
-    → line_outcome replayed before text end
-    ≡ reader_outcome (length before + 1) (caused (line_meant header lines
-    (record { number = length before + 1; line = line })))
-first-line before after header lines text line end at short read =
-    short-line replayed before text end
-    (ap (λ (x : Extent). ltb (longest_line (version_of x)) (length text) || ltb (longest_input (version_of x)) end)
-    at.first ∙ short)
-    ∙ ap (λ (x : Extent). reader_outcome (length before + 1) (meant_at (length before + 1) x text)) at.first
-    ∙ ap (λ (r : Result Line LineFault). reader_outcome (length before + 1)
-    (read_meant header lines (length before + 1) r)) read
-
--- and of the migrated one
-pub second-line : (before after : List (List ℕ)) (header : Header) (lines : List Numbered) (text : List ℕ) (line : Line)
-    (end : ℕ) → Follows before after header lines → length text ≤ 4352 → end ≤ 134217728 → line_in 2 1 text ≡ Ok line
-    → line_outcome replayed after text end
-    ≡ reader_outcome (length before + 1 + 1) (caused (line_meant header (raised_lines lines)
-    (record { number = length before + 1 + 1; line = line })))
-second-line before after header lines text line end at fits inside read =
-    short-line replayed after text end
-    (ap (λ (x : Extent). ltb (longest_line (version_of x)) (length text) || ltb (longest_input (version_of x)) end)
-    at.second ∙ not-long 4352 134217728 (length text) end fits inside)
-    ∙ ap (λ (x : Extent). reader_outcome (length after + 1) (meant_at (length after + 1) x text)) at.second
-    ∙ ap (λ (n : ℕ). reader_outcome (n + 1) (read_meant header (raised_lines lines) (n + 1)
-    (line_in 2 (length header.companions) text))) at.count
-    ∙ ap (λ (c : ℕ). reader_outcome (length before + 1 + 1) (read_meant header (raised_lines lines)
-    (length before + 1 + 1) (line_in 2 c text))) at.one
-    ∙ ap (λ (r : Result Line LineFault). reader_outcome (length before + 1 + 1)
-    (read_meant header (raised_lines lines) (length before + 1 + 1) r)) read
+pub header-turned : (text : List ℕ) (header : Header) → HasNoFeed text → header_of text ≡ Ok (One header)
+    → IsOpened text header
+header-turned text header free e =
+    let is : AreHeader (words_of text) header =
+    ok-range (AreStart (words_of text)) (header_of_words (words_of text)) (One header) (header-words (words_of text))
+    e in
+    let words = later_words text in
+    let a = first_word words in
+    let b = first_word (other_words words) in
+    let c = first_word (later_words words) in
+    let rest = other_words (later_words words) in
+    let name = cut-words text (codes "css-schedule") (codes "1") (is.mode ∷ is.error ∷ is.precision ∷ is.rest) is.are in
+    let version = cut-words (other_words text) (codes "1") is.mode (is.error ∷ is.precision ∷ is.rest) name.rest in
+    let mode = cut-words words is.mode is.error (is.precision ∷ is.rest) version.rest in
+    let error = cut-words (other_words words) is.error is.precision is.rest mode.rest in
+    let precision = cut-words (later_words words) is.precision is.some.word is.some.more
+    (error.rest ∙ ap (λ (r : List (List ℕ)). is.precision ∷ r) is.some.are) in
+    let own : words_of rest ≡ is.rest = precision.rest ∙ sym is.some.are in
+    let some : 1 ≤ length rest = has-byte rest is.companion (ap companion_of_words own ∙ is.own) in
+    let apart : three_words words ++ codes " 1" ≡ a ++ 32 ∷ (b ++ 32 ∷ (c ++ 32 ∷ codes "1")) = simp append_assoc in
+    let cut : words_of (three_words words ++ codes " 1") ≡ a ∷ b ∷ c ∷ codes "1" ∷ [] =
+    ap words_of apart
+    ∙ slice_split_at is_space a 32 (b ++ 32 ∷ (c ++ 32 ∷ codes "1")) mode.free refl
+    ∙ ap (λ (w : List (List ℕ)). a ∷ w) (slice_split_at is_space b 32 (c ++ 32 ∷ codes "1") error.free refl
+    ∙ ap (λ (w : List (List ℕ)). b ∷ w) (slice_split_at is_space c 32 (codes "1") precision.free refl)) in
+    let same : a ∷ b ∷ c ∷ codes "1" ∷ [] ≡ is.mode ∷ is.error ∷ is.precision ∷ codes "1" ∷ [] =
+    cc (mode.first, error.first, precision.first) in
+    let free_words = later-free text free in
+    let free_later = later-free words free_words in
+    let front = first-free words free_words in
+    let sizes_name = cut-size text _ _ name in
+    let sizes_version = cut-size (other_words text) _ _ version in
+    let sizes_mode = cut-size words _ _ mode in
+    let sizes_error = cut-size (other_words words) _ _ error in
+    let sizes_precision = cut-size (later_words words) _ _ precision in
+    let named = ap (λ (l : List ℕ). length l) name.first in
+    let numbered = ap (λ (l : List ℕ). length l) version.first in
+    let three : length (three_words words) ≡ length a + (length b + (length c + 1) + 1) =
+    omega (arith, length-append a (32 ∷ (b ++ 32 ∷ c)), length-append b (32 ∷ c)) in
+    let first : length (start_line text) ≡ 15 + (length (three_words words) + 2) =
+    omega (arith, length-append (three_words words) (codes " 1")) in
+    let second : length (companion_line text) ≡ 12 + length rest = omega arith in
+    record {
+      bare = is.bare;
+      companion = is.companion;
+      start = ap (λ (w : List (List ℕ)). header_of_words (codes "css-schedule" ∷ codes "2" ∷ w)) (cut ∙ same) ∙
+          is.start;
+      next = ap (λ (w : List (List ℕ)). numbered_of_words 1 (codes "companion" ∷ codes "1" ∷ w))
+          own ∙ is.next;
+      alone = is.alone;
+      whole = is.whole;
+      first = both-free (codes "css-schedule 2 ") (three_words words ++ codes " 1")
+          (free-by (codes "css-schedule 2 ") refl) (both-free (three_words words) (codes " 1")
+          (both-free a (32 ∷ (b ++ 32 ∷ c)) front
+          (space-free (b ++ 32 ∷ c) (both-free b (32 ∷ c) (first-free (other_words words)
+          (others-free words free_words))
+          (space-free c (first-free (later_words words) free_later)))))
+          (one-free [] (All-nil (λ byte. is_feed byte ≡ false))));
+      second = both-free (codes "companion 1 ") rest (free-by (codes "companion 1 ") refl)
+          (others-free (later_words words) free_later);
+      first_fits = omega (arith, first, three);
+      second_fits = omega (arith, second);
+      twice = omega (arith, first, three, second);
+    }

@@ -1,15 +1,17 @@
 -- The lines of a schedule with their numbers raised by one, and what is said of them.
-use Rattle.std.specs.Prelude.{ℕ, ◌+◌, ◌^◌, ◌<◌, ◌≡◌, if◌then◌else◌, List, [], ◌∷◌, ◌++◌, map, Result, decimal}
-use Rattle.std.specs.Prelude.{unwrap_or}
-use Rattle.std.specs.List.{flat_map}
+use Rattle.std.specs.Prelude.{ℕ, ℤ, ◌+◌, ◌^◌, ◌<◌, ◌≡◌, ◌⊎◌, List, [], ◌∷◌, ◌++◌, map, Option, Some, Result}
 use Rattle.std.specs.Result.{result_map_both}
+use Rattle.css_num.specs.Spans.{Interval}
 use Rattle.css_num.specs.Words.{number_of}
-use Rattle.css_lines.specs.Lines.{whole_lines}
-use Rattle.css_schedule.specs.Words.{is_space}
+use Rattle.css_companion.specs.Printed.{line_of}
+use Rattle.css_companion.specs.declared.report.Report.{Report}
+use Rattle.css_lines.specs.Progress.{HasNoFeed}
+use Rattle.css_schedule.specs.Words.{words_of}
 use Rattle.css_schedule.specs.declared.header.Header.{Header}
 use Rattle.css_world.specs.declared.fault.WorldFault.{WorldFault}
 use Rattle.css_world.specs.declared.fault.WorldFault.TheVariants.{Broken, Absent, Player, Memory}
 use Rattle.css_world.specs.Happened.{Numbered}
+use Rattle.css_world.specs.Printed.{wall_text}
 use Rattle.css_world.specs.Verdicts.{line_meant}
 
 -- ---- lines
@@ -22,28 +24,32 @@ abbrev pub raised_lines : List Numbered → List Numbered
 raised_lines lines = map raised_line lines
 
 -- ---- what is printed
--- the bytes before the first space
-abbrev pub before_space : List ℕ → List ℕ
-before_space [] = []
-before_space (byte ∷ bytes) = if is_space byte then [] else byte ∷ before_space bytes
+-- What is printed for a line, but for the line's number: nothing, the span of the wall clock, or a report.
+pub data Said : Type 0 where
+  Nothing : Said
+  Span : (span : Option Interval) → (wall : ℕ) → Said
+  Reported : (report : Report) → (position : Option ℤ) → Said
 
--- and those from there on
-abbrev pub from_space : List ℕ → List ℕ
-from_space [] = []
-from_space (byte ∷ bytes) = if is_space byte then byte ∷ bytes else from_space bytes
+-- the text of it, for the line of that number
+abbrev pub said_text : ℕ → Said → List ℕ
+said_text number Nothing = []
+said_text number (Span span wall) = wall_text number span wall
+said_text number (Reported report position) = line_of number report position
 
--- the number that stands before the first space
-abbrev pub leading_number : List ℕ → ℕ
-leading_number text = unwrap_or (number_of (before_space text)) 0
+-- A text is one line, and a number is read off it: its first word. Its only line feed is at its end.
+pub record IsReadOff (number : ℕ) (text : List ℕ) : Type 0 where
+  pub line : List ℕ
+  pub is : text ≡ line ++ 10 ∷ []
+  pub free : HasNoFeed line
+  pub word : List ℕ
+  pub others : List (List ℕ)
+  pub words : words_of line ≡ word ∷ others
+  pub read : number < 2 ^ 64 → number_of word ≡ Some number
 
--- a printed line with the number before its first space raised by one, and with its line feed
-abbrev pub raised_text : List ℕ → List ℕ
-raised_text text = decimal (leading_number text + 1) ++ from_space text ++ 10 ∷ []
-
--- What is printed, with the number of each of its lines raised by one. What is printed for a line ends with a line
--- feed, or is nothing at all.
-unfoldable pub raised_print : List ℕ → List ℕ
-raised_print printed = flat_map raised_text (whole_lines printed)
+-- What is said at a line is nothing, or the line's number is read off it. So a text that is printed has one reading as
+-- numbers and what is said beside them.
+abbrev pub NumbersAreReadOff : Type 0
+NumbersAreReadOff = (number : ℕ) (said : Said) → (said ≡ Nothing) ⊎ IsReadOff number (said_text number said)
 
 -- ---- what is told of a refusal
 -- the earlier line that a fault names has its number raised by one
@@ -53,13 +59,15 @@ raised_fault Absent = Absent
 raised_fault (Player fault) = Player fault
 raised_fault Memory = Memory
 
--- what is printed for a line, or why it is refused
-abbrev pub raised_result : Result (List ℕ) WorldFault → Result (List ℕ) WorldFault
-raised_result result = result_map_both raised_print raised_fault result
-
 -- ---- the law
--- Lines with their numbers raised by one mean the same as the lines, but for the numbers that are named. A line's
--- number has at most 64 bits.
+-- The line of that number and the next line mean the same: what is said, each under its own number, or the fault that
+-- is told, with the earlier line's number raised by one.
+pub record MeanAlike (number : ℕ) (meant next_meant : Result (List ℕ) WorldFault) : Type 0 where
+  pub said : Result Said WorldFault
+  pub first : meant ≡ result_map_both (said_text number) (λ fault. fault) said
+  pub second : next_meant ≡ result_map_both (said_text (number + 1)) raised_fault said
+
+-- Lines with their numbers raised by one mean the same as the lines, but for the numbers that are named.
 abbrev pub NumbersDontMatter : Type 0
-NumbersDontMatter = (header : Header) (older : List Numbered) (now : Numbered) → now.number < 2 ^ 64
-    → line_meant header (raised_lines older) (raised_line now) ≡ raised_result (line_meant header older now)
+NumbersDontMatter = (header : Header) (older : List Numbered) (now : Numbered)
+    → MeanAlike now.number (line_meant header older now) (line_meant header (raised_lines older) (raised_line now))

@@ -1,6 +1,7 @@
 -- What becomes of a schedule and of its migration: line 1 becomes two lines, so the number of each line is raised by
 -- one.
 use Rattle.std.specs.Prelude.{ℕ, ◌+◌, ◌≡◌, List, None}
+use Rattle.std.specs.List.{flat_map}
 use Rattle.std.specs.Option.{option_map}
 use Rattle.css_lines.specs.Meaning.{Outcome, outcome}
 use Rattle.css_lines.specs.declared.reader.Refusal.{Refusal}
@@ -9,7 +10,7 @@ use Rattle.css_migrate.specs.Migrated.{migrated}
 use Rattle.css_replay.specs.Replayed.{replayed}
 use Rattle.css_replay.specs.declared.reader.Cause.{Cause}
 use Rattle.css_replay.specs.declared.reader.Cause.TheVariants.{Form, Absent, Player, Broken}
-use Rattle.css_laws.specs.Numbers.{raised_print}
+use Rattle.css_laws.specs.Numbers.{Said, said_text}
 
 -- the earlier line that a cause names has its number raised by one
 abbrev pub raised_cause : Cause → Cause
@@ -26,15 +27,22 @@ raised_refusal (Refused cause) = Refused (raised_cause cause)
 abbrev pub raised_verdict : ℕ × Refusal Cause → ℕ × Refusal Cause
 raised_verdict verdict = (verdict.0 + 1, raised_refusal verdict.1)
 
--- an outcome with the number of each line that is printed or told raised by one
-abbrev pub raised : Outcome Cause → Outcome Cause
-raised outcome = record {
-  printed = raised_print outcome.printed;
-  verdict = option_map raised_verdict outcome.verdict;
-}
+-- what is said at lines of these numbers, and the same with each number raised by one
+abbrev pub said_texts : List (ℕ × Said) → List ℕ
+said_texts said = flat_map (λ line. said_text line.0 line.1) said
+
+abbrev pub raised_texts : List (ℕ × Said) → List ℕ
+raised_texts said = flat_map (λ line. said_text (line.0 + 1) line.1) said
+
+-- The second outcome is the first one with the number of each line that is printed or told raised by one.
+pub record IsRaised (first second : Outcome Cause) : Type 0 where
+  pub said : List (ℕ × Said)
+  pub printed : first.printed ≡ said_texts said
+  pub raised : second.printed ≡ raised_texts said
+  pub verdict : second.verdict ≡ option_map raised_verdict first.verdict
 
 -- Where a schedule of version 1 is migrated, a replay of what it becomes says the same as a replay of the schedule,
 -- with the number of each line raised by one.
 abbrev pub MigratedSchedulesAreReplayedAlike : Type 0
 MigratedSchedulesAreReplayedAlike = (bytes : List ℕ) → (outcome migrated bytes).verdict ≡ None
-    → outcome replayed (outcome migrated bytes).printed ≡ raised (outcome replayed bytes)
+    → IsRaised (outcome replayed bytes) (outcome replayed (outcome migrated bytes).printed)

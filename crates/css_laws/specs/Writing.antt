@@ -6,14 +6,14 @@ use Rattle.css_app.specs.Commands.{ByMigrate}
 use Rattle.css_replay.specs.Devices.{SourceUse, SinkUse}
 use Rattle.css_replay.specs.Replayed.{replayed}
 use Rattle.css_replay.specs.declared.status.Status.TheVariants.{Done}
-use Rattle.css_laws.specs.Raised.{raised}
+use Rattle.css_laws.specs.Raised.{IsRaised}
 
 -- The sink gained a schedule of which a replay says the same as of these bytes, with the number of each line raised by
 -- one.
 pub record GainsAlike (bytes : List ℕ) (holds_old holds_new : Option (List ℕ)) : Type 0 where
   pub written : List ℕ
   pub grew : Appends holds_old holds_new written
-  pub alike : outcome replayed written ≡ raised (outcome replayed bytes)
+  pub alike : IsRaised (outcome replayed bytes) (outcome replayed written)
 
 -- So it is in every run that does what `migrate` promises of its devices, read its schedule to the end and told the
 -- bytes of that.

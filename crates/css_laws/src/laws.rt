@@ -1,7 +1,7 @@
 //! A replay beside a schedule whose lines have other numbers, and beside what another command writes.
 
 ghost use Rattle.css_laws.specs.Generations.{GeneratedSchedulesAreReplayed};
-ghost use Rattle.css_laws.specs.Numbers.{NumbersDontMatter};
+ghost use Rattle.css_laws.specs.Numbers.{NumbersAreReadOff, NumbersDontMatter};
 ghost use Rattle.css_laws.specs.Raised.{MigratedSchedulesAreReplayedAlike};
 ghost use Rattle.css_laws.specs.Writing.{WrittenIsReplayedAlike};
 
@@ -10,6 +10,12 @@ ghost use Rattle.css_laws.specs.Writing.{WrittenIsReplayedAlike};
 /// line's number raised by one.
 pub fn numbers_dont_matter()
     ensures { NumbersDontMatter }
+{}
+
+/// The number of a line is read off what is printed for it: it is the first word. So what two replays print says which
+/// lines they print it for.
+pub fn numbers_are_read_off()
+    ensures { NumbersAreReadOff }
 {}
 
 /// A replay of a migrated schedule says the same as a replay of the schedule, with the number of each line raised by

@@ -1,16 +1,15 @@
-ghost use Rattle.std.specs.Prelude.{◌≡◌, ◌++◌, length, OnOk, OnErr};
+ghost use Rattle.std.specs.Prelude.{◌≡◌, ◌∷◌, ◌++◌, IfOk, OnOk, OnErr, position, codes};
 ghost use Rattle.css_lines.specs.Answers.{Answers};
+ghost use Rattle.css_schedule.specs.Words.{is_space};
 ghost use Rattle.css_schedule.specs.Headers.{header_of};
 ghost use Rattle.css_schedule.specs.Lines.{line_of};
-ghost use Rattle.css_printed.specs.Printed.{second_text, line_text_in};
-ghost use Rattle.css_schedule.specs.Ranges.{IsPrintable, IsLine, IsFirst};
-ghost use Rattle.css_migrate.specs.Migrated.{fed, header_becomes, line_becomes};
+ghost use Rattle.css_migrate.specs.Migrated.{first_word, other_words, fed, line_turned, header_turned};
+ghost use Rattle.css_migrate.specs.Migrated.{header_becomes, line_becomes};
 ghost use Rattle.css_migrate.specs.Standing.{unread_fault};
 
 use css_lines::{LineFault, Lines};
 use css_num::{Memory, Text};
-use css_printed::{print_header, print_line};
-use css_schedule::{Header, Line, Start, read_header, read_line};
+use css_schedule::{Start, read_header, read_line};
 use std::alloc::Global;
 
 /// A line is outside the grammar of version 1, or a number is outside its range. A header of version 2 is told so too.
@@ -30,8 +29,6 @@ const LONGEST_LINE: usize = 4096;
 const LONGEST_INPUT: u64 = 67_108_864;
 
 const FIRST: u32 = 1;
-
-const SECOND: u32 = 2;
 
 const COMPANIONS: u32 = 1;
 
@@ -55,32 +52,84 @@ fn put(text: &mut Text, out: &mut Vec<u8>) -> Result<(), Memory>
     Ok(())
 }
 
-fn put_header(alloc: Global, header: &Header, out: &mut Vec<u8>) -> Result<(), Memory>
-    requires alone { length header.now.companions ≡ 1 }
-    requires range { IsPrintable header.now }
-    ensures ok { OnOk result (out.new.items ≡ out.old.items ++ fed (second_text header.now)) }
-    ensures err { OnErr result (out.new.items ≡ out.old.items) }
+// Where the first space is.
+fn first_space(text: &[u8]) -> Option<usize>
+    ensures { result ≡ position is_space text.now }
 {
-    let mut text = print_header(alloc, header, SECOND)?;
-    put(&mut text, out)
+    text.iter().position(|byte| *byte == b' ')
 }
 
-fn put_line(alloc: Global, line: &Line, out: &mut Vec<u8>) -> Result<(), Memory>
-    requires range { IsLine line.now }
-    requires of { IsFirst line.now }
-    ensures ok { OnOk result (out.new.items ≡ out.old.items ++ fed (line_text_in 2 line.now)) }
+// The first word of a text, and the words after it.
+fn cut(text: &[u8]) -> (&[u8], &[u8])
+    ensures first { result.0.now ≡ first_word text.now }
+    ensures others { result.1.now ≡ other_words text.now }
+{
+    match first_space(text) {
+        None => (text, &[]),
+        Some(space) => (&text[..space], &text[space + 1..]),
+    }
+}
+
+// Puts the number of the companion behind the two times that a line begins with.
+fn put_line(alloc: Global, text: &[u8], out: &mut Vec<u8>) -> Result<(), Memory>
+    ensures ok { OnOk result (out.new.items ≡ out.old.items ++ fed (line_turned text.now)) }
     ensures err { OnErr result (out.new.items ≡ out.old.items) }
 {
-    let mut text = print_line(alloc, line, SECOND)?;
-    put(&mut text, out)
+    let (time, rest) = cut(text);
+    let (wall, rest) = cut(rest);
+    let mut line = Text::of(alloc, time)?;
+    line.push(b" ")?;
+    line.push(wall)?;
+    line.push(b" 1 ")?;
+    line.push(rest)?;
+    put(&mut line, out)
+}
+
+// Three words of the television's, with a space between two of them.
+fn declared(alloc: Global, mode: &[u8], error: &[u8], precision: &[u8]) -> Result<Text, Memory>
+    ensures { IfOk result (λ words. words ≡ mode.now ++ 32 ∷ (error.now ++ 32 ∷ precision.now)) }
+{
+    let mut words = Text::of(alloc, mode)?;
+    words.push(b" ")?;
+    words.push(error)?;
+    words.push(b" ")?;
+    words.push(precision)?;
+    Ok(words)
+}
+
+// The header's line and that of its companion.
+fn header_lines(alloc: Global, declared: &[u8], companion: &[u8]) -> Result<Text, Memory>
+    ensures { IfOk result (λ lines. lines ≡ codes "css-schedule 2 " ++ declared.now
+        ++ (codes " 1" ++ 10 ∷ codes "companion 1 ") ++ companion.now) }
+{
+    let mut lines = Text::of(alloc, b"css-schedule 2 ")?;
+    lines.push(declared)?;
+    lines.push(b" 1\ncompanion 1 ")?;
+    lines.push(companion)?;
+    Ok(lines)
+}
+
+// Puts what the television declares into one line, and what its companion does into another.
+fn put_header(alloc: Global, text: &[u8], out: &mut Vec<u8>) -> Result<(), Memory>
+    ensures ok { OnOk result (out.new.items ≡ out.old.items ++ fed (header_turned text.now)) }
+    ensures err { OnErr result (out.new.items ≡ out.old.items) }
+{
+    let (_, rest) = cut(text);
+    let (_, rest) = cut(rest);
+    let (mode, rest) = cut(rest);
+    let (error, rest) = cut(rest);
+    let (precision, rest) = cut(rest);
+    let words = declared(alloc, mode, error, precision)?;
+    let mut lines = header_lines(alloc, words.bytes(), rest)?;
+    put(&mut lines, out)
 }
 
 // Reads line 1, and adds what it becomes.
 fn open(alloc: Global, text: &[u8], out: &mut Vec<u8>) -> Result<(), LineFault<NoLine>>
-    ensures { Answers (header_becomes (header_of text.now)) out.old.items out.new.items result }
+    ensures { Answers (header_becomes text.now (header_of text.now)) out.old.items out.new.items result }
 {
     match read_header(alloc, text) {
-        Ok(Start::One(header)) => match put_header(alloc, &header, out) {
+        Ok(Start::One(_)) => match put_header(alloc, text, out) {
             Ok(()) => Ok(()),
             Err(_) => Err(LineFault::Memory),
         },
@@ -91,10 +140,10 @@ fn open(alloc: Global, text: &[u8], out: &mut Vec<u8>) -> Result<(), LineFault<N
 
 // Reads another line, and adds what it becomes.
 fn go_on(alloc: Global, text: &[u8], out: &mut Vec<u8>) -> Result<(), LineFault<NoLine>>
-    ensures { Answers (line_becomes (line_of text.now)) out.old.items out.new.items result }
+    ensures { Answers (line_becomes text.now (line_of text.now)) out.old.items out.new.items result }
 {
     match read_line(alloc, text, FIRST, COMPANIONS) {
-        Ok(line) => match put_line(alloc, &line, out) {
+        Ok(_) => match put_line(alloc, text, out) {
             Ok(()) => Ok(()),
             Err(_) => Err(LineFault::Memory),
         },

@@ -1,194 +1,149 @@
--- Each generated line of one companion is accepted after those before it.
-use Rattle.std.proofs.Common.{◌≡◌, ℕ, suc, zero, ◌+◌, ◌-◌, ◌≤◌, arith, ap, sym, subst, ◌∙◌, refl}
-use Rattle.std.proofs.Common.{Bool, false, cond, List, [], ◌∷◌}
-use Rattle.std.specs.Prelude.{map, Result, Ok}
+-- Each drawn line is accepted after those before it.
+use Rattle.std.proofs.Common.{◌≡◌, ℕ, suc, zero, ◌+◌, ◌<◌, ◌≤◌, arith, ap, sym, subst, ◌∙◌, refl}
+use Rattle.std.proofs.Common.{Bool, true, false, List, ◌∷◌}
+use Rattle.std.specs.Prelude.{None, IfSome, Result, Ok, length}
 use Rattle.std.specs.Result.{result_and}
-use Rattle.std.proofs.lemmas.Bool.{le-ltb}
-use Rattle.css_model.specs.Numbers.{precision_ns}
-use Rattle.css_schedule.specs.Ranges.{IsLine}
+use Rattle.std.proofs.lemmas.List.{length-replicate}
+use Rattle.css_schedule.specs.Owners.{is_own}
+use Rattle.css_schedule.specs.Ranges.{IsLine, IsSecond}
 use Rattle.css_schedule.specs.declared.line.Line.{Line}
+use Rattle.css_schedule.specs.declared.line.Verb.{Verb}
+use Rattle.css_schedule.specs.declared.line.Verb.TheVariants.{Ask, Take, Give, Land, Wall, Print, Sleep}
 use Rattle.css_world.specs.declared.fault.WorldFault.{WorldFault}
-use Rattle.css_world.specs.Clocks.{Seen, clock_verdict, last_reading, has_woken, reading_verdict}
 use Rattle.css_world.specs.Happened.{Numbered}
-use Rattle.css_world.specs.Verdicts.{tv_seen, own_seen, seen_of_tv, seen_of, tv_reading, own_reading}
-use Rattle.css_world.specs.Verdicts.{shown_tested, reading_tested, tested, carried_out, line_meant}
+use Rattle.css_world.specs.Verdicts.{tv_reading, own_reading, shown_tested, reading_tested, tested, carried_out}
+use Rattle.css_world.specs.Verdicts.{line_meant}
 use Rattle.css_world.specs.Standing.{AreAccepted, IsNext}
-use Rattle.css_gen.specs.Course.{clock, tv_clock, own_clock, started, later, happening, next_line, next_course}
-use Rattle.css_gen.specs.Course.{course_after}
-use Rattle.css_gen.specs.Opening.{header, opening_line}
-use Rattle.css_gen.specs.Generated.{line_numbered}
-use Rattle.css_survey.specs.Generated.{header_for, generated}
-use Rattle.css_gen.specs.declared.course.Course.{Course}
-use Rattle.css_gen.proofs.Bounds.{course-small}
-use Rattle.css_gen.proofs.Clocks.{clock-start, clock-goes_on}
-use Rattle.css_gen.proofs.Ranges.{next-range, opening-range, pts-utf8, stem-utf8}
-use Rattle.css_survey.proofs.Watched.{IsSeen, AreSeen, clock-ok, seen_next, reading-ok, both-ok}
-use Rattle.css_survey.proofs.Exchanged.{AreExchanged, at}
-use Rattle.css_survey.proofs.Openings.{to_9, of-one, opening-accepted, opening-exchanged, opening-tv, opening-own}
-use Rattle.css_survey.proofs.Stepped.{ones, IsBefore, happening-step}
+use Rattle.css_gen.specs.Course.{clock}
+use Rattle.css_gen.specs.Crowd.{senders_after, askers_after}
+use Rattle.css_gen.specs.Opening.{companion}
+use Rattle.css_gen.proofs.Clocks.{clock-goes_on}
+use Rattle.css_survey.specs.Generated.{header_for, heading, line_for, numbered_for, generated}
+use Rattle.css_survey.proofs.Watched.{both-ok}
+use Rattle.css_survey.proofs.Seen.{Oscillators, AllSeen, IsShown, shown-ok, reads-ok, all-seen}
+use Rattle.css_survey.proofs.Comes.{AreExchanged, Comes, given_after, done}
 
--- the opening, and so many lines after it
-further : (seed : ℕ) → (lines : ℕ) → List Numbered
-further seed zero = to_9
-further seed (suc lines) =
-    record { number = lines + 10; line = next_line (course_after seed lines) } ∷ further seed lines
+-- What lines leave behind: the clocks at true time, who sent each request and who sent that of each take, and how many
+-- takes were answered.
+pub record State : Type 0 where
+  pub tv_fast : Bool
+  pub fast : Oscillators
+  pub time : ℕ
+  pub senders : List ℕ
+  pub askers : List ℕ
+  pub answers : ℕ
 
--- Lines are accepted up to this course, and the next line finds the clocks and the exchanges of the course.
-record Holds (course : Course) (number : ℕ) (lines : List Numbered) : Type 0 where
-  accepted : AreAccepted header lines
-  tv : AreSeen course.tv_fast course.time number (seen_of_tv lines)
-  own : AreSeen course.own_fast course.time number (map own_seen lines)
-  alone : seen_of 1 lines ≡ map own_seen lines
-  exchanged : AreExchanged 1 (ones course.requests) (ones course.takes) course.answers (tv_clock course) lines
-  last : IsNext number lines
+-- after one line more
+abbrev pub after : State → Line → State
+after s line = record s {
+  time = line.t;
+  senders = senders_after s.senders line.who line.verb;
+  askers = askers_after s.senders s.askers line.verb;
+  answers = given_after s.answers line.verb;
+}
 
--- the opening is
-opening-holds : (seed : ℕ) → Holds (started seed) 10 to_9
-unfolding started
-opening-holds seed =
-    let shown : clock (started seed).tv_fast 0 ≡ 1000000000 = clock-start (started seed).tv_fast in
-    record {
-      accepted = opening-accepted opening-range (record { stem = stem-utf8; selector = pts-utf8 });
-      tv = opening-tv (started seed).tv_fast;
-      own = opening-own (started seed).own_fast;
-      alone = refl;
-      exchanged = subst (λ n. AreExchanged 1 [] [] 0 n to_9) (sym shown) opening-exchanged;
-      last = omega arith;
-    }
+-- Lines are accepted, and the next line finds this state.
+pub record Holds (companions : ℕ) (s : State) (number : ℕ) (lines : List Numbered) : Type 0 where
+  pub accepted : AreAccepted (header_for companions) lines
+  pub seen : AllSeen s.tv_fast s.fast s.time number lines
+  pub exchanged : AreExchanged companions s.senders s.askers s.answers (clock s.tv_fast s.time) lines
+  pub last : IsNext number lines
+
+-- A line comes later, shows what the clocks do, and says what can happen.
+pub record IsDrawn (companions : ℕ) (s : State) (line : Line) (next : State) : Type 0 where
+  pub range : IsLine line
+  pub second : IsSecond companions line
+  pub late : s.time + 30000 ≤ line.t
+  pub tv : line.w ≡ clock s.tv_fast line.t
+  pub own : 1 ≤ line.who → line.l ≡ clock (s.fast line.who) line.t
+  pub comes : Comes s.senders s.askers s.answers line.w line.who line.l line.verb
+  pub is : next ≡ after s line
+
+-- ---- its readings
+reads-tv : (senders askers : List ℕ) (given w who l : ℕ) (verb : Verb) → Comes senders askers given w who l verb
+    → IfSome (tv_reading verb) (λ reading. reading ≡ w)
+reads-tv senders askers given w who l (Take n r) comes = comes.2
+reads-tv senders askers given w who l (Give n r) comes = comes.2
+reads-tv senders askers given w who l (Ask r) comes = tt
+reads-tv senders askers given w who l (Land n r) comes = tt
+reads-tv senders askers given w who l (Print r) comes = tt
+reads-tv senders askers given w who l Sleep comes = tt
+reads-tv senders askers given w who l _ comes = absurd comes
+
+reads-own : (senders askers : List ℕ) (given w who l : ℕ) (verb : Verb) → Comes senders askers given w who l verb
+    → IfSome (own_reading verb) (λ reading. reading ≡ l)
+reads-own senders askers given w who l (Ask r) comes = comes
+reads-own senders askers given w who l (Land n r) comes = comes.1
+reads-own senders askers given w who l (Print r) comes = comes
+reads-own senders askers given w who l (Wall r) comes = absurd comes
+reads-own senders askers given w who l _ comes = tt
+
+-- a reading is a companion's only where it takes part
+own-none : (verb : Verb) → is_own verb ≡ false → own_reading verb ≡ None
+own-none (Ask r) e = absurd (cc)
+own-none (Land n r) e = absurd (cc)
+own-none (Wall r) e = absurd (cc)
+own-none (Print r) e = absurd (cc)
+own-none _ e = refl
 
 -- ---- one line more
--- a line with these numbers, after such lines
-abbrev line_at : Course → ℕ → Numbered
-line_at course number =
-    at number (later course).time (tv_clock (later course)) 1 (own_clock (later course))
-    (happening (later course)).verb
-
--- what the two clocks show passes their tests
-shown-ok : (course : Course) (number : ℕ) (lines : List Numbered) (now : Numbered) → Holds course number lines
-    → now.line.who ≡ 1 → course.time ≤ now.line.t
-    → IsSeen course.tv_fast now.line.t (tv_seen now) → IsSeen course.own_fast now.line.t (own_seen now)
-    → shown_tested header lines now ≡ Ok tt
-shown-ok course number lines now h who time tv own =
-    let own_ok : clock_verdict 12800 (seen_of 1 lines) (own_seen now) ≡ Ok tt =
-    ap (λ (s : List Seen). clock_verdict 12800 s (own_seen now)) h.alone
-    ∙ clock-ok course.own_fast course.time number (map own_seen lines) (own_seen now) h.own time own in
-    let tv_ok = clock-ok course.tv_fast course.time number (seen_of_tv lines) (tv_seen now) h.tv time tv in
-    rw who (both-ok (clock_verdict 12800 (seen_of_tv lines) (tv_seen now))
-    (clock_verdict 12800 (seen_of 1 lines) (own_seen now)) tv_ok own_ok)
-
--- so does a reading of one of them
-readings-ok : (course : Course) (number : ℕ) (lines : List Numbered) (now : Numbered) → Holds course number lines
-    → now.line.who ≡ 1 → course.time + 30000 ≤ now.line.t
-    → IsSeen course.tv_fast now.line.t (tv_seen now) → IsSeen course.own_fast now.line.t (own_seen now)
-    → reading_tested header lines now ≡ Ok tt
-readings-ok course number lines now h who time tv own =
-    let precision = precision_ns header.tv_precision in
-    let seen = map own_seen lines in
-    let own_reads : List Seen → Result (Unit {0}) WorldFault =
-    λ s. reading_verdict now.number 1000 now.line.l (has_woken s) (last_reading s) (own_reading now.line.verb) in
-    let own_ok : own_reads (seen_of 1 lines) ≡ Ok tt =
-    ap own_reads h.alone
-    ∙ reading-ok course.own_fast course.time number seen (own_seen now) 1000 (has_woken seen) h.own time own in
-    let tv_ok =
-    reading-ok course.tv_fast course.time number (seen_of_tv lines) (tv_seen now) precision false h.tv time tv in
-    rw who (both-ok
-    (reading_verdict now.number precision now.line.w false (last_reading (seen_of_tv lines))
-    (tv_reading now.line.verb))
-    (own_reads (seen_of 1 lines)) tv_ok own_ok)
-
--- what was seen of a clock, by other names for the same numbers
-seen-same : (fast fast' : Bool) (time time' number number' : ℕ) (seen : List Seen) → fast' ≡ fast → time' ≡ time
-    → number' ≡ number → AreSeen fast time number seen → AreSeen fast' time' number' seen
-seen-same fast fast' time time' number number' seen f t n h =
-    subst (λ x. AreSeen x time' number' seen) (sym f)
-    (subst (λ x. AreSeen fast x number' seen) (sym t) (subst (λ x. AreSeen fast time x seen) (sym n) h))
-
--- the next line is accepted too
-step-holds : (course : Course) (number : ℕ) (lines : List Numbered) → IsLine (next_line course)
-    → Holds course number lines → Holds (next_course course) (number + 1) (line_at course number ∷ lines)
-unfolding later
-step-holds course number lines range h =
-    let now = line_at course number in
-    let before : IsBefore lines (tv_clock course) (later course) = record {
-      exchanged = h.exchanged;
-      later = clock-goes_on course.tv_fast course.time (later course).time (omega arith);
+pub goes_on : (companions : ℕ) (s next : State) (number : ℕ) (lines : List Numbered) (now : Numbered)
+    → Holds companions s number lines → IsDrawn companions s now.line next → now.number ≡ number
+    → Holds companions next (number + 1) (now ∷ lines)
+goes_on companions s next number lines now h drawn is =
+    let header = header_for companions in
+    let line = now.line in
+    let none : line.who ≡ 0 → own_reading line.verb ≡ None =
+    λ nobody. not-own (is_own line.verb) refl nobody drawn.second.own in
+    let shown : IsShown companions s.tv_fast s.fast now = record {
+      few = drawn.second.who;
+      tv = drawn.tv;
+      own = drawn.own;
+      tv_reads = reads-tv s.senders s.askers s.answers line.w line.who line.l line.verb drawn.comes;
+      own_reads = reads-own s.senders s.askers s.answers line.w line.who line.l line.verb drawn.comes;
+      none = none;
     } in
-    let step = happening-step lines number (tv_clock course) (later course) before in
-    let grown : course.time + 30000 ≤ now.line.t = omega arith in
-    let time : course.time ≤ now.line.t = omega (arith, grown) in
-    let tv : IsSeen course.tv_fast now.line.t (tv_seen now) =
-    record { before = omega arith; shows = refl; reads = step.tv_reads } in
-    let own : IsSeen course.own_fast now.line.t (own_seen now) =
-    record { before = omega arith; shows = refl; reads = step.own_reads } in
+    let late = drawn.late in
+    let later : s.time ≤ line.t = omega arith in
+    let gone : clock s.tv_fast s.time < line.w = rw drawn.tv (clock-goes_on s.tv_fast s.time line.t late) in
+    let step = done companions s.senders s.askers s.answers (clock s.tv_fast s.time) lines h.exchanged now.number line.t
+    line.w line.who line.l gone line.verb drawn.comes in
     let passes : tested header lines now ≡ Ok tt =
     both-ok (shown_tested header lines now) (reading_tested header lines now)
-    (shown-ok course number lines now h refl time tv own) (readings-ok course number lines now h refl grown tv own) in
-    let meant : line_meant header lines now ≡ Ok step.done.printed =
-    ap (λ (r : Result (Unit {0}) WorldFault). result_and r (carried_out header lines now)) passes ∙ step.done.carried in
-    let shown : tv_clock (next_course course) ≡ tv_clock (later course) =
-    ap (λ (f : Bool). clock f (next_course course).time) step.tv_fast
-    ∙ ap (clock (later course).tv_fast) step.time in
-    let next = next_course course in
-    record {
-      accepted = (
-        range,
-        of-one now.line.t now.line.w now.line.l now.line.verb,
-        h.last,
-        (step.done.printed, meant),
-        h.accepted,
-      );
-      tv = seen-same course.tv_fast next.tv_fast now.line.t next.time (number + 1) (number + 1)
-          (seen_of_tv (now ∷ lines)) step.tv_fast step.time refl
-          (seen_next course.tv_fast course.time number (seen_of_tv lines) (tv_seen now) h.tv time refl tv);
-      own = seen-same course.own_fast next.own_fast now.line.t next.time (number + 1) (number + 1)
-          (map own_seen (now ∷ lines)) step.own_fast step.time refl
-          (seen_next course.own_fast course.time number (map own_seen lines) (own_seen now) h.own time refl own);
-      alone = ap (λ (s : List Seen). own_seen now ∷ s) h.alone;
-      exchanged = subst (λ n. AreExchanged 1 (ones next.requests) (ones next.takes) next.answers n (now ∷ lines))
-          (sym shown) step.done.after;
-      last = omega arith;
-    }
+    (shown-ok companions s.tv_fast s.fast s.time number lines h.seen now later shown)
+    (reads-ok companions s.tv_fast s.fast s.time number lines h.seen now later shown late) in
+    let meant : line_meant header lines now ≡ Ok step.printed =
+    ap (λ (r : Result (Unit {0}) WorldFault). result_and r (carried_out header lines now)) passes ∙ step.carried in
+    let of : IsSecond (length header.companions) line =
+    subst (λ n. IsSecond n line) (sym (length-replicate companions companion)) drawn.second in
+    rw drawn.is (record {
+      accepted = (drawn.range, of, subst (λ n. IsNext n lines) (sym is) h.last, (step.printed, meant), h.accepted);
+      seen = all-seen companions s.tv_fast s.fast s.time number lines h.seen now later shown is;
+      exchanged = subst (λ n. AreExchanged companions (after s line).senders (after s line).askers
+          (after s line).answers
+          n (now ∷ lines)) drawn.tv step.after;
+      last = omega (arith, is);
+    })
+  where
+    not-own : (own : Bool) → is_own now.line.verb ≡ own → now.line.who ≡ 0
+        → (is_own now.line.verb ≡ true → 1 ≤ now.line.who) → own_reading now.line.verb ≡ None
+    not-own true e nobody some = let one = some e in absurd (omega (arith, one, nobody))
+    not-own false e nobody some = own-none now.line.verb e
 
--- so are all of them
-all-hold : (seed lines : ℕ) → lines ≤ 200000 → Holds (course_after seed lines) (lines + 10) (further seed lines)
-unfolding course_after further
-all-hold seed zero few = opening-holds seed
-all-hold seed (suc lines) few =
-    let number : lines + 10 + 1 ≡ suc lines + 10 = omega arith in
-    let course = course_after seed lines in
-    let fewer : lines ≤ 200000 = omega (arith, few) in
-    subst (λ n. Holds (next_course course) n (line_at course (lines + 10) ∷ further seed lines)) number
-    (step-holds course (lines + 10) (further seed lines) (next-range course (course-small seed lines fewer))
-    (all-hold seed lines fewer))
-
--- ---- by their numbers
--- a line after the opening
-line-late : (seed number lines : ℕ) → number ≡ lines + 10
-    → line_numbered seed number ≡ next_line (course_after seed lines)
-unfolding line_numbered
-line-late seed number lines e =
-    let rest : number - 10 ≡ lines = omega (arith, e) in
-    ap (λ b. cond b (opening_line number) (next_line (course_after seed (number - 10))))
-    (le-ltb number 10 (omega (arith, e)))
-    ∙ ap (λ (n : ℕ). next_line (course_after seed n)) rest
-
--- these are the generated lines
-further-is : (seed lines : ℕ) → generated seed 1 (lines + 8) ≡ further seed lines
-unfolding further line_numbered generated
-further-is seed zero = refl
-further-is seed (suc lines) =
-    let count : suc lines + 8 ≡ suc (lines + 8) = omega arith in
-    let given = 1 + suc (lines + 8) in
-    let number : given ≡ lines + 10 = omega arith in
-    let same : line_numbered seed given ≡ next_line (course_after seed lines) = line-late seed given lines number in
-    let rest = generated seed 1 (lines + 8) in
-    ap (generated seed 1) count
-    ∙ ap (λ (n : ℕ). record { number = n; line = line_numbered seed given } ∷ rest) number
-    ∙ ap (λ (l : Line). record { number = lines + 10; line = l } ∷ rest) same
-    ∙ ap (λ (ls : List Numbered). record { number = lines + 10; line = next_line (course_after seed lines) } ∷ ls)
-    (further-is seed lines)
-
--- so all of them are accepted
-pub one_accepted : (seed count : ℕ) → count ≤ 200000 → AreAccepted (header_for 1) (generated seed 1 (count + 8))
-one_accepted seed count few =
-    subst (AreAccepted (header_for 1)) (sym (further-is seed count)) (all-hold seed count few).accepted
+-- ---- all lines
+-- after the opening, of so many lines, each line that is generated is drawn
+module _ (seed companions whole : ℕ) (state : ℕ → State)
+    (drawn : (n : ℕ) → n ≤ 200000 → IsDrawn companions (state n)
+    (line_for seed companions (heading companions + suc (whole + n))) (state (suc n)))
+    (first : Holds companions (state 0) (heading companions + suc whole) (generated seed companions whole)) where
+  pub all-hold : (n : ℕ) → n ≤ 200000
+      → Holds companions (state n) (heading companions + suc (whole + n)) (generated seed companions (whole + n))
+  unfolding generated
+  all-hold zero few = let same : whole + 0 ≡ whole = omega arith in rw same first
+  all-hold (suc n) few =
+      let same : whole + suc n ≡ suc (whole + n) = omega arith in
+      let number = heading companions + suc (whole + n) in
+      let next : number + 1 ≡ heading companions + suc (suc (whole + n)) = omega arith in
+      rw same (subst (λ m. Holds companions (state (suc n)) m (generated seed companions (suc (whole + n)))) next
+      (goes_on companions (state n) (state (suc n)) number (generated seed companions (whole + n))
+      (numbered_for seed companions number) (all-hold n (omega (arith, few))) (drawn n (omega (arith, few))) refl))

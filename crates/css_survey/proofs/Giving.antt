@@ -1,7 +1,7 @@
 -- What a generator gave, and whether there was a line more.
-use Rattle.std.proofs.Common.{◌≡◌, ◌+◌, ◌<◌, ◌≤◌, ℕ, List, Bool, true, false, cond, ltb, refl}
+use Rattle.std.proofs.Common.{◌≡◌, ◌+◌, ◌<◌, ℕ, List, Bool, true, false, cond, ltb, refl}
 use Rattle.std.specs.Prelude.{Some, None}
-use Rattle.std.proofs.lemmas.Bool.{ltb-true, ltb-false}
+use Rattle.std.proofs.lemmas.Bool.{ltb-true}
 use Rattle.css_gen.specs.Generated.{Generator, text_after, next_text, after_next}
 
 -- A generator gave this text: it was the next one, and there was one line more.
@@ -24,23 +24,3 @@ gave before after text given left = by (ltb before.given before.lines) refl give
         → after ≡ cond b left_so before → Gave before after text
     by true more is left = record { more = ltb-true before.given before.lines more; text = cc; gone = left }
     by false more is left = absurd (cc)
-
--- It gave nothing, since there was no line more.
-pub record GaveNone (before after : Generator) : Type 0 where
-  pub none : before.lines ≤ before.given
-  pub same : after ≡ before
-
-pub gave_none : (before after : Generator) → None ≡ next_text before → after ≡ after_next before
-    → GaveNone before after
-gave_none before after given left = by (ltb before.given before.lines) refl given left
-  where
-    next : List ℕ
-    next = text_after before
-
-    left_so : Generator
-    left_so = record before { given = before.given + 1 }
-
-    by : (b : Bool) → ltb before.given before.lines ≡ b → None ≡ cond b (Some next) None
-        → after ≡ cond b left_so before → GaveNone before after
-    by true more is left = absurd (cc)
-    by false more is left = record { none = ltb-false before.given before.lines more; same = left }

@@ -1,18 +1,16 @@
 -- The tests of a clock pass on lines that show it as the generator does.
-use Rattle.std.proofs.Common.{◌≡◌, ℕ, ◌+◌, ◌-◌, ◌<◌, ◌≤◌, arith, ap, sym, subst, ◌∙◌, refl, Bool, true, false, cond}
+use Rattle.std.proofs.Common.{◌≡◌, ℕ, ◌+◌, ◌<◌, ◌≤◌, arith, ap, sym, subst, ◌∙◌, refl, Bool, true, false}
 use Rattle.std.proofs.Common.{List, [], ◌∷◌}
-use Rattle.std.specs.Prelude.{Option, Some, None, IfSome, Result, Ok, Err, All, pos}
-use Rattle.std.specs.Int.{abs_diff}
+use Rattle.std.specs.Prelude.{Option, Some, None, IfSome, Result, Ok, All}
 use Rattle.std.specs.Result.{result_and, result_map_both}
-use Rattle.std.proofs.lemmas.Bool.{le-ltb}
+use Rattle.std.proofs.lemmas.Bool.Decides.{nat_tests}
 use Rattle.std.proofs.lemmas.List.Elements.{All-nil, All-cons, All-head, All-tail, All-weaker}
 use Rattle.css_moments.specs.Drifts.{Shown, Told, Keeps, verdict, last_shown, shown_lately, IsAccepted, IsNext}
 use Rattle.css_moments.proofs.Pairs.{accepts_exactly}
 use Rattle.css_world.specs.declared.fault.WorldFault.{WorldFault}
-use Rattle.css_world.specs.declared.fault.WorldFault.TheVariants.{Broken}
 use Rattle.css_world.specs.declared.watch.Reading.{Reading}
 use Rattle.css_world.specs.Clocks.{Seen, shown_at, told_with, told_by, broken_by, clock_verdict, last_reading}
-use Rattle.css_world.specs.Clocks.{near_verdict, least_after, order_verdict, reading_verdict}
+use Rattle.css_world.specs.Clocks.{near_verdict, order_verdict, reading_verdict}
 use Rattle.css_gen.specs.Course.{clock}
 use Rattle.css_gen.proofs.Clocks.{clock-keeps, clock-rises, clock-goes_on}
 
@@ -29,16 +27,12 @@ pub record AreSeen (fast : Bool) (time number : ℕ) (seen : List Seen) : Type 0
   pub accepted : IsAccepted 12800 (told_by seen)
   pub last : IfSome (last_shown (told_by seen)) (λ shown. shown.line < number)
 
--- a line that was seen by then was seen by a later time
-seen_later : (fast : Bool) (time time' : ℕ) → time ≤ time' → (seen : Seen) → IsSeen fast time seen
-    → IsSeen fast time' seen
-seen_later fast time time' later seen h =
-    record { before = omega (arith, h.before, later); shows = h.shows; reads = h.reads }
-
+-- lines that were seen by then were seen by a later time
 pub all-later : (fast : Bool) (time time' : ℕ) → time ≤ time' → (seen : List Seen) → All (IsSeen fast time) seen
     → All (IsSeen fast time') seen
 all-later fast time time' later seen h =
-    All-weaker (IsSeen fast time) (IsSeen fast time') (seen_later fast time time' later) seen h
+    All-weaker (IsSeen fast time) (IsSeen fast time')
+    (λ s is. record { before = omega (arith, is.before, later); shows = is.shows; reads = is.reads }) seen h
 
 -- the clock keeps its error from a line that was seen to a later one
 seen_keeps : (fast : Bool) (earlier now : Seen) → IsSeen fast now.time earlier → IsSeen fast now.time now
@@ -138,21 +132,13 @@ last-low fast time (s ∷ seen) all =
 
 -- a reading of what is shown is near it
 near-ok : (number precision shown reading : ℕ) → reading ≡ shown → near_verdict number precision shown reading ≡ Ok tt
-near-ok number precision shown reading e =
-    ap (λ b. cond b (Err (Broken number (pos (abs_diff reading shown - precision)))) (Ok tt))
-    (le-ltb precision (abs_diff reading shown) (omega (arith, e)))
+near-ok number precision shown reading e = grind (arith, nat_tests)
 
 -- above the last one it is in order, also where the end slept between
-least-low : (woken : Bool) (last reading : ℕ) → last < reading → least_after woken last ≤ reading
-least-low true last reading low = omega (arith, low)
-least-low false last reading low = omega (arith, low)
-
 order-ok : (woken : Bool) (last : Option Reading) (reading : ℕ) → IfSome last (λ l. l.value < reading)
     → order_verdict woken last reading ≡ Ok tt
 order-ok woken None reading low = refl
-order-ok woken (Some last) reading low =
-    ap (λ b. cond b (Err (Broken last.line (pos (least_after woken last.value - reading)))) (Ok tt))
-    (le-ltb reading (least_after woken last.value) (least-low woken last.value reading low))
+order-ok woken (Some last) reading low = grind (arith, nat_tests)
 
 pub both-ok : (a b : Result (Unit {0}) WorldFault) → a ≡ Ok tt → b ≡ Ok tt → result_and a b ≡ Ok tt
 both-ok a b e e' = ap (λ r. result_and r b) e ∙ e'
@@ -163,8 +149,7 @@ reading-by : (number precision shown : ℕ) (woken : Bool) (last : Option Readin
 reading-by number precision shown woken last None low e = refl
 reading-by number precision shown woken last (Some reading) low e =
     both-ok (near_verdict number precision shown reading) (order_verdict woken last reading)
-    (near-ok number precision shown reading e)
-    (order-ok woken last reading (subst (λ r. IfSome last (λ l. l.value < r)) (sym e) low))
+    (near-ok number precision shown reading e) (order-ok woken last reading (rw e low))
 
 -- a later value of the clock is above the last reading
 above-last : (last : Option Reading) (low high : ℕ) → low < high → IfSome last (λ l. l.value ≤ low)

@@ -1,13 +1,10 @@
 -- The schedule that is generated of a seed for so many companions, and what is promised of its lines.
-use Rattle.std.specs.Prelude.{ℕ, suc, zero, ◌+◌, ◌<◌, ◌==◌, if◌then◌else◌, List, [], ◌∷◌, ◌++◌, replicate}
-use Rattle.css_schedule.specs.declared.header.Header.{Header}
-use Rattle.css_schedule.specs.declared.line.Line.{Line}
+use Rattle.std.specs.Prelude.{ℕ, suc, zero, ◌+◌, ◌<◌, ◌==◌, if◌then◌else◌, List, [], ◌∷◌, ◌++◌}
 use Rattle.css_world.specs.Happened.{Numbered}
 use Rattle.css_world.specs.Verdicts.{IsDeclared}
 use Rattle.css_world.specs.Standing.{AreAccepted}
-use Rattle.css_gen.specs.Opening as opening
-use Rattle.css_gen.specs.Generated.{line_numbered, text_in}
-use Rattle.css_gen.specs.Second.{second_line}
+use Rattle.css_gen.specs.Generated.{text_in}
+pub use Rattle.css_gen.specs.Generated.{header_for, heading, line_for}
 use Rattle.css_gen.specs.Standing.{AreSome}
 
 -- the first lines, so many of them, each with its line feed
@@ -16,24 +13,10 @@ schedule_text seed companions zero = []
 schedule_text seed companions (suc lines) =
     schedule_text seed companions lines ++ (text_in seed companions (suc lines) ++ 10 ∷ [])
 
--- ---- the header
--- all companions are declared alike
-abbrev pub header_for : (companions : ℕ) → Header
-header_for companions = record opening.header { companions = replicate companions opening.companion }
-
--- So many lines declare it: with one companion the schedule is of version 1, and line 1 has the whole header.
-abbrev pub heading : (companions : ℕ) → ℕ
-heading companions = if companions == 1 then 1 else companions + 1
-
+-- ---- the lines after the header
 -- the version of the schedule
 abbrev pub version_for : (companions : ℕ) → ℕ
 version_for companions = if companions == 1 then 1 else 2
-
--- ---- the lines after the header
--- the line of that number
-abbrev pub line_for : (seed companions number : ℕ) → Line
-line_for seed companions number =
-    if companions == 1 then line_numbered seed number else second_line seed companions number
 
 -- that line with its number
 abbrev pub numbered_for : (seed companions number : ℕ) → Numbered

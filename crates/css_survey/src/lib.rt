@@ -2,7 +2,6 @@
 //! of these lines, whatever the seed.
 #![tactic(auto)]
 
-mod heading;
 pub mod laws;
 mod summary;
 mod surveyor;

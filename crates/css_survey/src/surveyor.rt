@@ -1,31 +1,24 @@
-ghost use Rattle.std.specs.Prelude.{◌≡◌, ◌≤◌, ◌<◌, ◌+◌, ◌^◌, nat_lt, List, ◌∷◌, length};
-ghost use Rattle.std.specs.Prelude.{Ok, Some, IfOk, OnOk};
-ghost use Rattle.css_schedule.specs.Lines.{line_in};
-ghost use Rattle.css_schedule.specs.declared.line.Line.{Line as Happening};
+ghost use Rattle.std.specs.Prelude.{◌≡◌, ◌≤◌, ◌<◌, ◌+◌, ◌^◌, List, ◌∷◌, length};
+ghost use Rattle.std.specs.Prelude.{Some, IfOk, OnOk};
 ghost use Rattle.css_world.specs.Happened.{Numbered};
 ghost use Rattle.css_world.specs.Standing as worlds;
 ghost use Rattle.css_world.specs.Verdicts as verdicts;
-ghost use Rattle.css_gen.specs.Generated.{after_next};
 ghost use Rattle.css_gen.specs.Second.{least_lines};
 ghost use Rattle.css_gen.specs.Standing.{AreSome};
 ghost use Rattle.css_survey.specs.Generated as generated;
-ghost use Rattle.css_survey.specs.Generated.{version_for};
 ghost use Rattle.css_survey.specs.Surveyed as surveyed;
-ghost use Rattle.css_survey.specs.Surveys.{Stands, IsTaken, HasTaken};
+ghost use Rattle.css_survey.specs.Surveys.{Stands, HasTaken};
 
-use crate::heading::{heading, whole_header};
 use crate::summary::Summary;
 use css_companion::Report;
 use css_gen::Generator;
 use css_num::Memory;
-use css_schedule::{Line, LineFault, Verb, read_line};
+use css_schedule::{Line, Verb};
 use css_world::{World, WorldFault};
 use std::alloc::Global;
 
 /// A replay of lines that a world takes, of which only the reports are counted.
 pub(crate) struct Surveyor {
-    /// How many companions the schedule has.
-    companions: u32,
     world: World,
     /// What is printed for a line. It is counted, and kept no longer.
     printed: Vec<u8>,
@@ -36,30 +29,10 @@ pub(crate) struct Surveyor {
 impl Drop for Surveyor {
     fn drop(self) {
         let Surveyor {
-            companions: _,
             world: _,
             printed: _,
             summary: _,
         } = self;
-    }
-}
-
-// The version of a schedule of so many companions.
-fn version(companions: u32) -> u32
-    ensures { result ≡ version_for companions }
-{
-    if companions == 1 { 1 } else { 2 }
-}
-
-// Reads a text that is in the grammar.
-fn read(alloc: Global, companions: u32, text: &[u8]) -> Result<Line, Memory>
-    requires { (line : Happening) × (line_in (version_for companions) companions text.now ≡ Ok line) }
-    ensures { IfOk result (λ line. line_in (version_for companions) companions text.now ≡ Ok line) }
-{
-    match read_line(alloc, text, version(companions), companions) {
-        Ok(line) => Ok(line),
-        Err(LineFault::Memory) => Err(Memory),
-        Err(LineFault::Form) => unreachable!(),
     }
 }
 
@@ -111,17 +84,13 @@ fn last_report(world: &World, who: u32, reading: u64) -> Report
 
 impl Surveyor {
     // Takes the line of that number.
-    fn take(&mut self, alloc: Global, number: u64, text: &[u8]) -> Result<(), Memory>
-        requires { (older : List Numbered) × (line : Happening) × Stands self.old older
-            × (length older < 200000)
-            × IsTaken self.old.companions self.old.world.header older number text.now line }
-        ensures companions { self.new.companions ≡ self.old.companions }
+    fn take(&mut self, number: u64, line: Line) -> Result<(), Memory>
+        requires { (older : List Numbered) × Stands self.old older × (length older < 200000)
+            × worlds.AreAccepted self.old.world.header (record { number = number; line = line } ∷ older) }
         ensures header { self.new.world.header ≡ self.old.world.header }
-        ensures stands { (older : List Numbered) (line : Happening) → Stands self.old older → length older < 200000
-            → IsTaken self.old.companions self.old.world.header older number text.now line
+        ensures stands { (older : List Numbered) → Stands self.old older → worlds.IsNext number older
             → OnOk result (Stands self.new (record { number = number; line = line } ∷ older)) }
     {
-        let line = read(alloc, self.companions, text)?;
         let who = line.who;
         let asked = asked_at(&line.verb);
         carry_out(&mut self.world, number, line, &mut self.printed)?;
@@ -136,7 +105,6 @@ impl Surveyor {
             × (surveyed.asked_by now.line.verb ≡ asked) × (now.line.who ≡ who) }
         requires prints { self.old.summary.prints < 2 ^ 32 }
         requires intervals { self.old.summary.intervals < 2 ^ 32 }
-        ensures companions { self.new.companions ≡ self.old.companions }
         ensures world { self.new.world ≡ self.old.world }
         ensures summary { (now : Numbered) (older : List Numbered) → worlds.StandsFor self.old.world (now ∷ older)
             → surveyed.asked_by now.line.verb ≡ asked → now.line.who ≡ who → self.new.summary
@@ -149,64 +117,73 @@ impl Surveyor {
     }
 }
 
+// How many lines declare the header of so many companions.
+fn heading(companions: u32) -> u64
+    ensures { result ≡ generated.heading companions }
+{
+    if companions == 1 {
+        1
+    } else {
+        u64::from(companions) + 1
+    }
+}
+
 // Begins a survey with the header that a new generator gives.
-fn begin(alloc: Global, companions: u32, generator: &mut Generator) -> Result<Surveyor, Memory>
-    requires same { companions ≡ generator.old.companions }
+fn begin(alloc: Global, generator: &mut Generator) -> Result<Surveyor, Memory>
     requires some { AreSome generator.old.companions }
-    requires lines { generated.heading generator.old.companions ≤ generator.old.lines }
-    requires most { generator.old.lines ≤ 200000 }
     requires given { generator.old.given ≡ 0 }
     ensures generator { OnOk result
         (generator.new ≡ record generator.old { given = generated.heading generator.old.companions }) }
-    ensures taken { IfOk result (λ survey. HasTaken survey generator.new) }
+    ensures taken { IfOk result (λ survey. HasTaken survey generator.old.seed generator.old.companions
+        (generated.heading generator.old.companions)) }
 {
-    let header = whole_header(alloc, generator)?;
+    let header = generator.header(alloc)?;
     Ok(Surveyor {
-        companions,
         world: World::new(alloc, header)?,
         printed: Vec::new(alloc),
         summary: Summary::new(),
     })
 }
 
-// Takes the next line that is generated, which has that number, and tells whether there was one.
+// Takes the line after so many.
 fn take_next(
     alloc: Global,
-    number: u64,
-    generator: &mut Generator,
-    survey: &mut Surveyor,
-) -> Result<bool, Memory>
-    requires number { number ≡ generator.old.given + 1 }
-    requires taken { HasTaken survey.old generator.old }
-    ensures more { IfOk result (λ more. more ≡ nat_lt generator.old.given generator.old.lines) }
-    ensures generator { OnOk result (generator.new ≡ after_next generator.old) }
-    ensures taken { OnOk result (HasTaken survey.new generator.new) }
-{
-    let next = generator.next_line(alloc)?;
-    match next {
-        Some(text) => {
-            survey.take(alloc, number, text.bytes())?;
-            Ok(true)
-        }
-        None => Ok(false),
-    }
-}
-
-// Takes each further line that is generated, the first of which has that number.
-fn take_all(
-    alloc: Global,
-    first: u64,
+    given: u64,
     generator: &mut Generator,
     survey: &mut Surveyor,
 ) -> Result<(), Memory>
-    requires first { first ≡ generator.old.given + 1 }
-    requires taken { HasTaken survey.old generator.old }
-    ensures generator { OnOk result (generator.new ≡ record generator.old { given = generator.old.lines }) }
-    ensures taken { OnOk result (HasTaken survey.new generator.new) }
+    requires some { AreSome generator.old.companions }
+    requires header { generated.heading generator.old.companions ≤ given }
+    requires more { given < generator.old.lines }
+    requires most { generator.old.lines ≤ 200000 }
+    requires given { generator.old.given ≡ given }
+    requires taken { HasTaken survey.old generator.old.seed generator.old.companions given }
+    ensures generator { OnOk result (generator.new ≡ record generator.old { given = given + 1 }) }
+    ensures taken { OnOk result (HasTaken survey.new generator.old.seed generator.old.companions (given + 1)) }
 {
-    let mut number = first;
-    'lines: while take_next(alloc, number, generator, survey)? {
-        number += 1;
+    let line = generator.line(alloc)?;
+    survey.take(given + 1, line)
+}
+
+// Takes each line after the first ones, which are so many.
+fn take_all(
+    alloc: Global,
+    first: u64,
+    lines: u64,
+    generator: &mut Generator,
+    survey: &mut Surveyor,
+) -> Result<(), Memory>
+    requires some { AreSome generator.old.companions }
+    requires header { generated.heading generator.old.companions ≡ first }
+    requires within { first ≤ lines }
+    requires all { generator.old.lines ≡ lines }
+    requires most { lines ≤ 200000 }
+    requires given { generator.old.given ≡ first }
+    requires taken { HasTaken survey.old generator.old.seed generator.old.companions first }
+    ensures { OnOk result (HasTaken survey.new generator.old.seed generator.old.companions lines) }
+{
+    for given in first..lines {
+        take_next(alloc, given, generator, survey)?;
     }
     Ok(())
 }
@@ -223,7 +200,13 @@ pub fn survey(alloc: Global, seed: u64, lines: u64, companions: u32) -> Result<S
         (λ summary. summary ≡ surveyed.summary_of (surveyed.told_in seed companions lines)) }
 {
     let mut generator = Generator::new(alloc, seed, lines, companions);
-    let mut survey = begin(alloc, companions, &mut generator)?;
-    take_all(alloc, heading(companions) + 1, &mut generator, &mut survey)?;
+    let mut survey = begin(alloc, &mut generator)?;
+    take_all(
+        alloc,
+        heading(companions),
+        lines,
+        &mut generator,
+        &mut survey,
+    )?;
     Ok(survey.summary)
 }

@@ -22,7 +22,7 @@ use Rattle.css_world.specs.Happened.{Numbered, tickets, taken_for, datagrams, ma
 use Rattle.css_world.specs.Happened.{server_of, answers_to, is_given, peer, bytes_of, events_of, history_of}
 use Rattle.css_world.specs.Numbering.{numbered}
 use Rattle.css_world.specs.Numbering.{stored, spent}
-use Rattle.css_world.specs.Standing.{World, AreStored, owner}
+use Rattle.css_world.specs.Standing.{Kept, AreStored, owner}
 use Rattle.css_world.specs.Standing.{open_ticket, EndsStand, IsAnswerTo, Answers}
 use Rattle.css_world.specs.Lanes.{LaneStands}
 use Rattle.css_world.specs.Verdicts.{is_for}
@@ -162,7 +162,7 @@ answer_owned server ticket reading asker answered items older is are =
         (answer_pushed (λ who. who) items older asker (Some asker) are)
 
 -- so does `give`
-pub given : (old : World) (lines : List Numbered) (number t w who l take reading asker : ℕ) (ticket : Ticket)
+pub given : (old : Kept) (lines : List Numbered) (number t w who l take reading asker : ℕ) (ticket : Ticket)
     (answered : Answered) (tv : Television) (made : List (List ℕ)) (owners : List ℕ)
     → EndsStand old lines → option_flatten (stored old.tv.takes.items take) ≡ Some ticket
     → stored old.taken_for take ≡ Some asker
@@ -231,7 +231,7 @@ given old lines number t w who l take reading asker ticket answered tv made owne
     )
 
 -- ---- a landing
-pub landed : (old : World) (lines : List Numbered) (number t w who l datagram reading : ℕ) (bytes : List ℕ)
+pub landed : (old : Kept) (lines : List Numbered) (number t w who l datagram reading : ℕ) (bytes : List ℕ)
     (lane : Lane) (companion : Companion)
     → EndsStand old lines → 1 ≤ who → who ≤ length old.lanes → stored old.lanes who ≡ Some lane
     → stored old.datagrams datagram ≡ Some bytes → stored old.made_for datagram ≡ Some who
@@ -274,7 +274,7 @@ landed old lines number t w who l datagram reading bytes lane companion ends fir
     )
 
 -- Where no datagram of that number is stored, or it is for another companion, none lands.
-pub not_landing : (old : World) (lines : List Numbered) (who datagram : ℕ) → EndsStand old lines
+pub not_landing : (old : Kept) (lines : List Numbered) (who datagram : ℕ) → EndsStand old lines
     → ((stored old.datagrams datagram ≡ None) ⊎ (stored old.made_for datagram ≡ None))
     → is_for who (numbered datagram (made_for old.header lines)) ≡ false
 not_landing old lines who datagram ends none =
@@ -288,7 +288,7 @@ not_landing old lines who datagram ends none =
         (ends.datagrams.count ∙ sym (made_count old.header lines) ∙ sym ends.made_for.count) missing
     by (inr nobody) = nobody
 
-pub not_for : (old : World) (lines : List Numbered) (who other datagram : ℕ) → EndsStand old lines
+pub not_for : (old : Kept) (lines : List Numbered) (who other datagram : ℕ) → EndsStand old lines
     → stored old.made_for datagram ≡ Some other → other ≢ who
     → is_for who (numbered datagram (made_for old.header lines)) ≡ false
 not_for old lines who other datagram ends whose differs =

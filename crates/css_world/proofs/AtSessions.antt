@@ -36,7 +36,7 @@ use Rattle.css_world.specs.Flights.{Session, opened, closed, first_in, rest_in}
 use Rattle.css_world.specs.Flights.{with_written, SessionCarries, SessionStands, HasNews}
 use Rattle.css_world.specs.Lanes.{LaneStands, KeepsAllButTexts, IsPlayed, KeepsAllBut, session_at, other}
 use Rattle.css_world.specs.Lanes.{next_at, taken_at, heard_as, closed_as, Greets}
-use Rattle.css_world.specs.Standing.{World, EndsStand, AreAccepted}
+use Rattle.css_world.specs.Standing.{Kept as Both, EndsStand, AreAccepted}
 use Rattle.css_world.proofs.Carrying.{own_line, one_lane}
 use Rattle.css_world.proofs.Peers.{cii_of, ts_of, cii-ts, ts-cii, others-peer}
 use Rattle.css_world.proofs.Entries.{dialled-open, dialled-was, dialled-open_apart}
@@ -105,7 +105,7 @@ pub owes-nothing : (k : Kind) (companion : Companion) → owed companion (closed
 owes-nothing kind.Cii companion = refl
 owes-nothing kind.Ts companion = refl
 
-module _ (old : World) (lines : List Numbered) (number t w who l : ℕ) where
+module _ (old : Both) (lines : List Numbered) (number t w who l : ℕ) where
   -- ---- what was not touched
   -- the companion, from the own session's change on
   stood_on : (k : Kind) (lane between mid : Lane)

@@ -21,7 +21,7 @@ use Rattle.css_world.specs.Happened.{Numbered, datagrams, done_by, events_of, hi
 use Rattle.css_world.specs.Numbering.{stored}
 use Rattle.css_world.specs.Verdicts.{played}
 use Rattle.css_world.specs.Lanes.{LaneStands, LanesStand, IsPlayed, AllArePlayed, KeepsAllButTexts}
-use Rattle.css_world.specs.Standing.{World, EndsStand, IsAtTv}
+use Rattle.css_world.specs.Standing.{Kept, EndsStand, IsAtTv}
 use Rattle.css_world.proofs.Carrying.{own_line, histories, all_lanes, own_lanes, one_lane}
 use Rattle.css_world.proofs.Delivered.{kept_in_each}
 use Rattle.css_world.proofs.Numbers.{stored_within, stored_same, set_there, set_others}
@@ -63,10 +63,10 @@ was_before n events e tv between played after all kept found =
       lane = was.0;
       found = was.1;
       done = subst (λ (x : Lane). IsPlayed n events e was.0 x) same is.2;
-      companion = sym was.3;
+      companion = sym was.2;
     }
 
-module _ (old : World) (lines : List Numbered) (number t w who l : ℕ) where
+module _ (old : Kept) (lines : List Numbered) (number t w who l : ℕ) where
   -- ---- the television alone
   -- what was played at the television alone is in flight to all
   alone : (e : TvEvent) (tv : Tv) (lanes : List Lane) → ((peer : ℕ) → concerns peer e ≡ false)

@@ -1,13 +1,11 @@
--- A world before its first line.
+-- Both ends before their first line, and their clocks.
 use Rattle.std.proofs.Common.{◌≡◌, ◌-◌, ℕ, zero, suc, arith, refl, ap, sym, subst, ◌∙◌, List, [], length}
-use Rattle.std.proofs.Common.{false, FitsSigned}
+use Rattle.std.proofs.Common.{FitsSigned}
 use Rattle.std.specs.Prelude.{Option, Some, None, unwrap_or, slice_get}
 use Rattle.std.specs.Int.{w8}
 use Rattle.std.specs.Option.{option_map}
-use Rattle.css_model.specs.Numbers.{precision_ns}
 use Rattle.css_model.specs.Wire.{encoded}
 use Rattle.css_model.specs.WallClock.{Local, IsLocal}
-use Rattle.css_moments.specs.Standing as drifts
 use Rattle.css_server.specs.Exchanges as servers
 use Rattle.css_server.specs.Tickets.{Server}
 use Rattle.css_num.specs.declared.protocol.Kind.TheVariants as kind
@@ -17,15 +15,17 @@ use Rattle.css_schedule.specs.Ranges.{IsHeader, IsCount}
 use Rattle.css_schedule.specs.declared.header.CompanionLine.{CompanionLine}
 use Rattle.css_schedule.specs.declared.header.Header.{Header}
 use Rattle.css_world.specs.declared.lane.Lane.{Lane}
+use Rattle.css_world.specs.declared.watch.Watch.{Watch}
 use Rattle.css_world.specs.declared.television.Television.{Television}
 use Rattle.css_world.specs.Flights.{Session, SessionStands, unopened}
 use Rattle.css_world.specs.Happened.{server_of}
 use Rattle.css_world.specs.Lanes.{IsFresh, AreFresh, IsLaneOf, setup_by}
 use Rattle.css_world.specs.Numbering.{stored, numbered}
 use Rattle.css_world.specs.Sessions.{addresses, setup_of, peer_of}
-use Rattle.css_world.specs.Standing.{World, IsWorld, EndsStand, StandsFor, AreStored}
+use Rattle.css_world.specs.Standing.{Kept, EndsAre, EndsStand, IsReady, AreStored, AreNew, WatchStands}
 use Rattle.css_world.specs.Standing.{request_bytes, owner, open_ticket}
 use Rattle.css_world.specs.Verdicts.{IsDeclared, local_of}
+use Rattle.css_world.proofs.Fresh.{Each}
 use Rattle.css_world.proofs.Numbers.{stored_within, stored_there}
 
 -- ---- what the header declares
@@ -55,24 +55,30 @@ setup_at : (header : Header) (who : ℕ) (declared : CompanionLine) → stored h
 unfolding setup_at_place
 setup_at header who declared at = ap setup_at_place (at_place header.companions who declared at)
 
--- ---- the lanes
--- each lane has its line
-line_of : (companions : List CompanionLine) (lanes : List Lane) (who : ℕ) (lane : Lane) → AreFresh companions lanes
-    → stored lanes who ≡ Some lane
-    → (declared : CompanionLine) × (stored companions who ≡ Some declared) × IsFresh declared lane
-line_of companions lanes who lane fresh found =
-    let within = stored_within lanes who lane found in
-    let declared = stored_there companions who within.0 (omega (arith, within.1, fresh.count)) in
-    (declared.0, declared.1, fresh.each who declared.0 lane declared.1 found)
+-- ---- what is made for each companion
+-- each item has its line
+line_of : {A : Type 0} {Is : CompanionLine → A → Type 0} (companions : List CompanionLine) (items : List A) (who : ℕ)
+    (item : A) → length items ≡ length companions → Each Is companions items → stored items who ≡ Some item
+    → (declared : CompanionLine) × (stored companions who ≡ Some declared) × Is declared item
+line_of companions items who item count each found =
+    let within = stored_within items who item found in
+    let declared = stored_there companions who within.0 (omega (arith, within.1, count)) in
+    (declared.0, declared.1, each who declared.0 item declared.1 found)
 
--- a fresh lane is as the header declares
+-- a new watch is as the header declares
+pub new_watch : (header : Header) (own : List Watch) → AreNew header.companions own → (who : ℕ) (watch : Watch)
+    → stored own who ≡ Some watch
+    → WatchStands (local_of who header).error (local_of who header).precision [] [] watch
+new_watch header own are who watch found =
+    let is = line_of header.companions own who watch are.count are.each found in
+    subst (λ (l : Local). WatchStands l.error l.precision [] [] watch) (sym (local_at header who is.0 is.1)) is.2
+
+-- and so is a fresh lane
 fresh_lane : (header : Header) (who : ℕ) (declared : CompanionLine) (lane : Lane)
-    → stored header.companions who ≡ Some declared → IsFresh declared lane → IsLaneOf header who lane
+    → stored header.companions who ≡ Some declared → IsFresh declared lane → IsLaneOf header who [] lane
 fresh_lane header who declared lane at fresh = record {
   own = fresh.own ∙ sym (local_at header who declared at);
   setup = fresh.setup ∙ sym (setup_at header who declared at);
-  error = fresh.error ∙ ap (λ (l : Local). l.error) (sym (local_at header who declared at));
-  precision = fresh.precision ∙ ap (λ (l : Local). l.precision) (sym (local_at header who declared at));
   floor = omega (arith, fresh.floor);
   after_sleep = omega (arith, fresh.after_sleep);
 }
@@ -87,22 +93,17 @@ each_local companions lanes place fresh (Some declared) is =
     let lane = stored_there lanes (suc place) within.0 (omega (arith, within.1, fresh.count)) in
     (fresh.each (suc place) declared lane.0 is lane.1).local
 
--- ---- the world
+-- ---- both ends
 -- a television that did nothing yet, as the header declares it
 pub record IsFreshTv (header : Header) (tv : Television) : Type 0 where
-  pub error : tv.clock.drift.error ≡ header.tv_error
-  pub drift : drifts.StandsFor tv.clock.drift []
-  pub precision : tv.clock.precision ≡ precision_ns header.tv_precision
-  pub last : tv.clock.last ≡ None
-  pub woken : tv.clock.woken ≡ false
   pub server : tv.tv.server ≡ server_of header
   pub serves : servers.StandsFor tv.tv.server []
   pub addresses : tv.tv.stage.addresses ≡ addresses
   pub stands : tvs.StandsFor tv.tv.stage []
   pub takes : tv.takes.items ≡ []
 
--- A world that did nothing yet.
-pub record HasBegun (world : World) : Type 0 where
+-- Ends that did nothing yet.
+pub record HasBegun (world : Kept) : Type 0 where
   pub header : IsHeader world.header
   pub count : IsCount (length world.header.companions)
   pub exponent : FitsSigned w8 world.header.tv_precision
@@ -114,8 +115,8 @@ pub record HasBegun (world : World) : Type 0 where
   pub datagrams : world.datagrams ≡ []
   pub made_for : world.made_for ≡ []
 
--- what its header declares is in range
-pub begun_declared : (world : World) → HasBegun world → IsDeclared world.header
+-- what their header declares is in range
+begun_declared : (world : Kept) → HasBegun world → IsDeclared world.header
 unfolding local_by
 begun_declared world begun = record {
   tv = begun.header;
@@ -125,21 +126,19 @@ begun_declared world begun = record {
       (slice_get world.header.companions (who - 1)) refl;
 }
 
--- what is always true is so at first
-pub begun_world : (world : World) → HasBegun world → IsWorld world
-begun_world world begun = record {
-  declared = begun_declared world begun;
-  tv_error = begun.tv.error;
-  tv_precision = begun.tv.precision;
-  tv_awake = begun.tv.woken;
-  server_precision = ap (λ (s : Server). s.precision) begun.tv.server;
-  server_error = ap (λ (s : Server). s.error) begun.tv.server;
-  server_follow = ap (λ (s : Server). s.follow) begun.tv.server;
+-- what is always so is so at first
+begun_are : (world : Kept) → HasBegun world → EndsAre world []
+begun_are world begun = record {
+  declares = record {
+    precision = ap (λ (s : Server). s.precision) begun.tv.server;
+    error = ap (λ (s : Server). s.error) begun.tv.server;
+    follow = ap (λ (s : Server). s.follow) begun.tv.server;
+  };
   addresses = begun.tv.addresses;
   count = begun.lanes.count;
   lanes = λ who lane found.
-      let declared = line_of world.header.companions world.lanes who lane begun.lanes found in
-      fresh_lane world.header who declared.0 lane declared.1 declared.2;
+      let is = line_of world.header.companions world.lanes who lane begun.lanes.count begun.lanes.each found in
+      fresh_lane world.header who is.0 lane is.1 is.2;
 }
 
 -- a session that was never open stands for nothing
@@ -159,10 +158,10 @@ none_stored see items is =
     subst (λ (xs : List _). AreStored see xs []) (sym is) (record { count = refl; each = none_at see })
 
 -- the ends did nothing yet
-begun_ends : (world : World) → HasBegun world → EndsStand world []
+begun_ends : (world : Kept) → HasBegun world → EndsStand world []
 begun_ends world begun = record {
   lanes = λ who lane found.
-      let declared = line_of world.header.companions world.lanes who lane begun.lanes found in
+      let declared = line_of world.header.companions world.lanes who lane begun.lanes.count begun.lanes.each found in
       record {
         companion = declared.2.stands;
         cii = never_open (peer_of who kind.Cii) lane.cii declared.2.cii;
@@ -180,20 +179,11 @@ begun_ends world begun = record {
   made_for = none_stored owner _ begun.made_for;
 }
 
--- so it stands for no line
-pub begun_stands : (world : World) → HasBegun world → StandsFor world []
-begun_stands world begun = record {
+-- so they are ready for a first line
+pub begun_ready : (world : Kept) → HasBegun world → IsReady world []
+begun_ready world begun = record {
   declared = begun_declared world begun;
   accepted = tt;
-  drifts = record {
-    tv = begun.tv.drift;
-    own = λ who lane found. (line_of world.header.companions world.lanes who lane begun.lanes found).2.drifts;
-  };
-  readings = record {
-    tv = begun.tv.last;
-    own = λ who lane found.
-        let fresh = (line_of world.header.companions world.lanes who lane begun.lanes found).2 in
-        record { last = fresh.last; woken = fresh.woken };
-  };
+  are = begun_are world begun;
   ends = begun_ends world begun;
 }

@@ -26,7 +26,7 @@ use Rattle.css_world.specs.Happened.{Numbered, requests, askers, tickets, ticket
 use Rattle.css_world.specs.Happened.{is_given, peer, done_by, events_of, history_of}
 use Rattle.css_world.specs.Numbering.{numbered}
 use Rattle.css_world.specs.Numbering.{stored}
-use Rattle.css_world.specs.Standing.{World, AreStored, request_bytes, owner}
+use Rattle.css_world.specs.Standing.{Kept, AreStored, request_bytes, owner}
 use Rattle.css_world.specs.Standing.{open_ticket, EndsStand}
 use Rattle.css_world.specs.Lanes.{LaneStands, LanesStand}
 use Rattle.css_tv.specs.declared.event.TvEvent.{TvEvent}
@@ -41,7 +41,7 @@ own_line number t w who l verb =
     record { number = number; line = record { t = t; w = w; who = who; l = l; verb = verb } }
 
 -- a line of companion `who`, by what happens there
-pub at_line : (world : World) (lines : List Numbered) (now : Numbered) (who : ℕ) (verb : Verb)
+pub at_line : (world : Kept) (lines : List Numbered) (now : Numbered) (who : ℕ) (verb : Verb)
     → now.line.who ≡ who → now.line.verb ≡ verb
     → EndsStand world (own_line now.number now.line.t now.line.w who now.line.l verb ∷ lines)
     → EndsStand world (now ∷ lines)
@@ -132,7 +132,7 @@ one_lane header lines number t w who l verb lanes lane none first within stand h
     here))
 
 -- ---- a request
-pub asked : (old : World) (lines : List Numbered) (number t w who l reading : ℕ) (lane : Lane)
+pub asked : (old : Kept) (lines : List Numbered) (number t w who l reading : ℕ) (lane : Lane)
     (companion : Companion) (items : List (List ℕ)) (owners : List ℕ)
     → EndsStand old lines → 1 ≤ who → who ≤ length old.lanes → stored old.lanes who ≡ Some lane → reading < LIMIT
     → companions.StandsFor companion
@@ -196,7 +196,7 @@ numbered_each P number (x ∷ older) item all e = elim (eqb_tells number (suc (l
 ]
 
 -- a stored request is read back
-pub stored_request : (world : World) (lines : List Numbered) (number : ℕ) (bytes : List ℕ) → EndsStand world lines
+pub stored_request : (world : Kept) (lines : List Numbered) (number : ℕ) (bytes : List ℕ) → EndsStand world lines
     → stored world.requests number ≡ Some bytes
     → (asked : ℕ) × (numbered number (requests lines) ≡ Some asked) × (decoded bytes ≡ Ok (request_at asked))
 stored_request world lines number bytes ends found =
@@ -224,7 +224,7 @@ ticket_same server header older reading asked follow greatest =
     ap by_follow follow ∙ ap by_greatest greatest
 
 -- `take` leaves ends that stand for one line more
-pub taken : (old : World) (lines : List Numbered) (number t w who l request reading asked asker : ℕ) (tv : Television)
+pub taken : (old : Kept) (lines : List Numbered) (number t w who l request reading asked asker : ℕ) (tv : Television)
     (owners : List ℕ)
     → EndsStand old lines → numbered request (requests lines) ≡ Some asked
     → numbered request (askers lines) ≡ Some asker

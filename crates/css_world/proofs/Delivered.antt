@@ -15,7 +15,7 @@ use Rattle.css_world.specs.Sessions.{peer_of}
 use Rattle.css_world.specs.Flights.{Session, grown, with_news, news_of}
 use Rattle.css_world.specs.Lanes.{IsFor, TakesUp, AllTakeUp, KeepsAllButTexts}
 use Rattle.css_world.proofs.News.{told-next}
-use Rattle.css_world.proofs.Numbers.{stored_within, stored_same, set_there, set_others, set_part, parts_kept}
+use Rattle.css_world.proofs.Numbers.{stored_within, stored_same, set_there, set_others, set_part, part_kept}
 use Rattle.css_world.proofs.Numbers.{count_kept}
 
 -- ---- nothing is told
@@ -101,26 +101,29 @@ told_on xs out first before after so_far now who lane found =
 pub kept_on : (first before after : List Lane) → KeepsAllButTexts first before → KeepsAllButTexts before after
     → KeepsAllButTexts first after
 kept_on first before after one two =
-    record { clocks = two.clocks ∙ one.clocks; companions = two.companions ∙ one.companions }
+    record { companions = two.companions ∙ one.companions }
 
 -- there are as many lanes
 pub as_many : (old new : List Lane) → KeepsAllButTexts old new → length new ≡ length old
-as_many old new kept = count_kept (λ (lane : Lane). lane.clock) old new kept.clocks
+as_many old new kept = count_kept (λ (lane : Lane). lane.companion) old new kept.companions
 
--- each lane keeps its clock and its companion
+-- each lane keeps its companion
 pub kept_in_each : (old new : List Lane) (who : ℕ) (after : Lane) → KeepsAllButTexts old new
     → stored new who ≡ Some after
-    → (before : Lane) × (stored old who ≡ Some before) × (before.clock ≡ after.clock)
-    × (before.companion ≡ after.companion)
+    → (before : Lane) × (stored old who ≡ Some before) × (before.companion ≡ after.companion)
 kept_in_each old new who after kept found =
-    parts_kept (λ (lane : Lane). lane.clock) (λ (lane : Lane). lane.companion) old new who after kept.clocks
-    kept.companions found
+    part_kept (λ (lane : Lane). lane.companion) old new who after kept.companions found
 
 -- ---- one lane
 -- what follows from what holds of an Ok holds of it
 pub ok_then : {T E P Q : Type 0} (result : Result T E) → OnOk result P → (P → Q) → OnOk result Q
 ok_then (Ok x) p next = next p
 ok_then (Err fault) p next = tt
+
+-- so does what follows from two such facts
+pub on_both : {T E P Q R : Type 0} (result : Result T E) → OnOk result P → OnOk result Q → (P → Q → R) → OnOk result R
+on_both (Ok x) p q next = next p q
+on_both (Err fault) p q next = tt
 
 -- where one lane takes up an output that is for it, and is written back, all do
 pub lane_told : (out : TvOut) (who : ℕ) (old : List Lane) (before after : Lane) → IsFor out who → 1 ≤ who
@@ -136,11 +139,9 @@ lane_told out who old before after is first within found taken =
       subst (λ (x : Lane). TakesUp who (out ∷ []) x after) same taken,
     ))
 
--- and each keeps its clock and its companion, where that one does
+-- and each keeps its companion, where that one does
 pub lane_kept : (who : ℕ) (old : List Lane) (before after : Lane) → stored old who ≡ Some before
-    → after.clock ≡ before.clock → after.companion ≡ before.companion
-    → KeepsAllButTexts old (slice_set old (who - 1) after)
-lane_kept who old before after found clock companion = record {
-  clocks = set_part (λ (lane : Lane). lane.clock) old who after before found clock;
+    → after.companion ≡ before.companion → KeepsAllButTexts old (slice_set old (who - 1) after)
+lane_kept who old before after found companion = record {
   companions = set_part (λ (lane : Lane). lane.companion) old who after before found companion;
 }

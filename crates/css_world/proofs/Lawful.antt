@@ -202,7 +202,7 @@ abbrev passed : Result (Unit {0}) WorldFault
 passed = Ok tt
 
 -- a reading that passes the tests isn't below the least one
-order-ok : (woken : Bool) (last : Option Reading) (reading : ℕ) → order_verdict woken last reading ≡ Ok tt
+pub order-ok : (woken : Bool) (last : Option Reading) (reading : ℕ) → order_verdict woken last reading ≡ Ok tt
     → least_next woken last ≤ reading
 order-ok woken None reading is = omega arith
 order-ok woken (Some last) reading is = by (ltb reading (least_after woken last.value)) refl is

@@ -36,10 +36,8 @@ pub mod Floors
 pub mod Rated
 pub mod InStep
 pub mod Reporting
-pub mod Inside
-pub mod Written
-pub mod Showing
-pub mod Reading
+pub mod Owning
+pub mod Watching
 pub mod Fresh
 pub mod Began
 pub mod Printing

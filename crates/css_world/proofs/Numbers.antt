@@ -146,16 +146,6 @@ part_kept part old new who after same is =
     (sym (stored-map part old who) ∙ ap (λ parts. stored parts who) (sym same) ∙ stored-map part new who
     ∙ ap (option_map part) is)
 
--- two such parts belong to one item
-pub parts_kept : {A B C : Type 0} (part : A → B) (other : A → C) (old new : List A) (who : ℕ) (after : A)
-    → map part new ≡ map part old → map other new ≡ map other old → stored new who ≡ Some after
-    → (before : A) × (stored old who ≡ Some before) × (part before ≡ part after) × (other before ≡ other after)
-parts_kept part other old new who after same too is =
-    let one = part_kept part old new who after same is in
-    let two = part_kept other old new who after too is in
-    let equal = stored_same old who two.0 one.0 two.1 one.1 in
-    (one.0, one.1, one.2, subst (λ x. other x ≡ other after) equal two.2)
-
 -- as many items have as many parts
 pub count_kept : {A B : Type 0} (part : A → B) (old new : List A) → map part new ≡ map part old
     → length new ≡ length old

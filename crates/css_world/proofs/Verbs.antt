@@ -39,7 +39,7 @@ use Rattle.css_world.specs.Verdicts.{can_happen, event_at, played}
 use Rattle.css_world.specs.Flights.{Session, phase_of, opened, closed, first_in}
 use Rattle.css_world.specs.Flights.{SessionCarries, SessionStands, HasNews}
 use Rattle.css_world.specs.Lanes.{LanesStand, AllArePlayed, IsDialled}
-use Rattle.css_world.specs.Standing.{World, EndsStand, AreAccepted, IsReady, IsAtTv, carried, Carries}
+use Rattle.css_world.specs.Standing.{Kept, EndsStand, AreAccepted, IsAtTv, carried, Carries}
 use Rattle.css_world.proofs.Carrying.{own_line, histories}
 use Rattle.css_world.proofs.Peers.{ts_of}
 use Rattle.css_world.proofs.Flights.{opened-ok, opened-err, closed-ok, closed-err, is-live, first-down, first-up}
@@ -62,62 +62,50 @@ carried-not header lines who verb cannot =
     ap (λ b. cond b (played (events_of header lines) (event_at header lines who verb)) (Err Absent)) cannot
 
 -- a call that tells why a line isn't carried out
-pub refuses : (old new : World) (result : Result (Unit {0}) WorldFault) (lines : List Numbered) (now : Numbered)
+pub refuses : (old new : Kept) (result : Result (Unit {0}) WorldFault) (lines : List Numbered) (now : Numbered)
     (who : ℕ) (verb : Verb) (fault : WorldFault)
     → result ≡ Err fault → (carried old.header lines who verb ≡ Err fault)
     ⊎ (fault ≡ Memory) → Carries old new result lines now who verb
 refuses old new result lines now who verb fault is why =
     subst (λ (r : Result (Unit {0}) WorldFault). Carries old new r lines now who verb) (sym is)
-    (record { answer = why; ends = tt })
+    (record { answer = why; are = tt; ends = tt })
 
 -- so does one that tells that it can't happen
-pub refuses-absent : (now old new : World) (lines : List Numbered) (line : Numbered) (who : ℕ) (verb : Verb)
-    → old ≡ now → IsReady now lines → (IsReady old lines → can_happen old.header lines who verb ≡ false)
-    → Carries now new (Err Absent) lines line who verb
-refuses-absent now old new lines line who verb view ready cannot =
-    subst (λ (w : World). Carries w new (Err Absent) lines line who verb) view
-    (refuses old new (Err Absent) lines line who verb Absent refl
-    (inl (carried-not old.header lines who verb
-    (cannot (subst (λ (w : World). IsReady w lines) (sym view) ready)))))
+pub refuses-absent : (old new : Kept) (lines : List Numbered) (now : Numbered) (who : ℕ) (verb : Verb)
+    → can_happen old.header lines who verb ≡ false → Carries old new (Err Absent) lines now who verb
+refuses-absent old new lines now who verb cannot =
+    refuses old new (Err Absent) lines now who verb Absent refl (inl (carried-not old.header lines who verb cannot))
 
 -- or that passes on why
-pub refuses-as : (now old new : World) (result : Result (Unit {0}) WorldFault) (lines : List Numbered) (line : Numbered)
-    (who : ℕ) (verb : Verb) (fault : WorldFault) → IsErrAnd result (λ f. f ≡ fault) → old ≡ now → IsReady now lines
-    → (IsReady old lines → (can_happen old.header lines who verb ≡ false) × (fault ≡ Absent))
-    → Carries now new result lines line who verb
-refuses-as now old new result lines line who verb fault is view ready cannot =
+pub refuses-as : (old new : Kept) (result : Result (Unit {0}) WorldFault) (lines : List Numbered) (now : Numbered)
+    (who : ℕ) (verb : Verb) (fault : WorldFault) → IsErrAnd result (λ f. f ≡ fault)
+    → (can_happen old.header lines who verb ≡ false) × (fault ≡ Absent) → Carries old new result lines now who verb
+refuses-as old new result lines now who verb fault is why =
     let exit = err_from_is_err_and result is in
-    let why = cannot (subst (λ (w : World). IsReady w lines) (sym view) ready) in
-    subst (λ (r : Result (Unit {0}) WorldFault). Carries now new r lines line who verb)
-    (sym (exit.1 ∙ ap Err (exit.2 ∙ why.1)))
-    (refuses-absent now old new lines line who verb view ready (λ stood. why.0))
+    subst (λ (r : Result (Unit {0}) WorldFault). Carries old new r lines now who verb)
+    (sym (exit.1 ∙ ap Err (exit.2 ∙ why.1))) (refuses-absent old new lines now who verb why.0)
 
 -- or that passes on why the television refuses what happens there
-pub refuses-played : (now old new : World) (result : Result (Unit {0}) WorldFault) (lines : List Numbered)
-    (line : Numbered) (who : ℕ) (verb : Verb) (e : TvEvent) (fault : WorldFault) → IsErrAnd result (λ f. f ≡ fault)
-    → old ≡ now → IsReady now lines
-    → (IsReady old lines → (can_happen old.header lines who verb ≡ true)
-    × (event_at old.header lines who verb ≡ Some e)
-    × ((played (events_of old.header lines) (Some e) ≡ Err fault) ⊎ (fault ≡ Memory)))
-    → Carries now new result lines line who verb
-refuses-played now old new result lines line who verb e fault is view ready why =
+pub refuses-played : (old new : Kept) (result : Result (Unit {0}) WorldFault) (lines : List Numbered)
+    (now : Numbered) (who : ℕ) (verb : Verb) (e : TvEvent) (fault : WorldFault) → IsErrAnd result (λ f. f ≡ fault)
+    → can_happen old.header lines who verb ≡ true → event_at old.header lines who verb ≡ Some e
+    → (played (events_of old.header lines) (Some e) ≡ Err fault) ⊎ (fault ≡ Memory)
+    → Carries old new result lines now who verb
+refuses-played old new result lines now who verb e fault is can at why =
     let exit = err_from_is_err_and result is in
-    let told = why (subst (λ (w : World). IsReady w lines) (sym view) ready) in
-    subst (λ (w : World). Carries w new result lines line who verb) view
-    (refuses old new result lines line who verb fault (exit.1 ∙ ap Err exit.2) (by told.0 told.1 told.2))
+    refuses old new result lines now who verb fault (exit.1 ∙ ap Err exit.2) (by why)
   where
-    by : can_happen old.header lines who verb ≡ true → event_at old.header lines who verb ≡ Some e
-        → (played (events_of old.header lines) (Some e) ≡ Err fault) ⊎ (fault ≡ Memory)
+    by : (played (events_of old.header lines) (Some e) ≡ Err fault) ⊎ (fault ≡ Memory)
         → (carried old.header lines who verb ≡ Err fault) ⊎ (fault ≡ Memory)
-    by can at (inl refused) =
+    by (inl refused) =
         inl (carried-when old.header lines who verb can ∙ ap (played (events_of old.header lines)) at ∙ refused)
-    by can at (inr memory) = inr memory
+    by (inr memory) = inr memory
 
 -- so may any call that tells of want of memory
-pub wants : (old new : World) (result : Result (Unit {0}) WorldFault) (lines : List Numbered) (now : Numbered)
+pub wants : (old new : Kept) (result : Result (Unit {0}) WorldFault) (lines : List Numbered) (now : Numbered)
     (who : ℕ) (verb : Verb) → IsErrAnd result (λ fault. fault ≡ Memory) → Carries old new result lines now who verb
 wants old new (Ok done) lines now who verb none = absurd none
-wants old new (Err fault) lines now who verb memory = record { answer = inr memory; ends = tt }
+wants old new (Err fault) lines now who verb memory = record { answer = inr memory; are = tt; ends = tt }
 
 -- ---- both ends
 -- a verb that isn't one of requests and datagrams
@@ -129,7 +117,7 @@ IsQuiet (Land datagram reading) = ⊥
 IsQuiet _ = Unit {0}
 
 -- After such a verb the world stands for the line too, where the companions and the stage do: what is stored stays.
-pub quiet : (old : World) (lines : List Numbered) (number t w who l : ℕ) (verb : Verb) (tv : Tv) (lanes : List Lane)
+pub quiet : (old : Kept) (lines : List Numbered) (number t w who l : ℕ) (verb : Verb) (tv : Tv) (lanes : List Lane)
     → IsQuiet verb
     → EndsStand old lines → tv.server ≡ old.tv.tv.server
     → tvs.StandsFor tv.stage (events_of old.header (own_line number t w who l verb ∷ lines))

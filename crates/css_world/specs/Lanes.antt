@@ -1,5 +1,5 @@
 -- The companions of a world beside the television: which events and which histories all stand for.
-use Rattle.std.specs.Prelude.{◌≡◌, ◌≢◌, ◌≤◌, true, false, ℕ, List, [], ◌∷◌, map, length, Option, Some, None}
+use Rattle.std.specs.Prelude.{◌≡◌, ◌≢◌, ◌≤◌, true, ℕ, List, [], ◌∷◌, map, length, Option, Some, None}
 use Rattle.std.specs.Prelude.{Result, Ok, Err, OnOk}
 use Rattle.css_num.specs.Gives.{GivesBy}
 use Rattle.css_model.specs.History.{Entry, Dialled, History}
@@ -24,10 +24,9 @@ use Rattle.css_tsmsg.specs.Setups.{setup_text}
 use Rattle.css_tsmsg.specs.declared.setup.Setup.{Setup}
 use Rattle.css_schedule.specs.declared.header.Header.{Header}
 use Rattle.css_world.specs.declared.lane.Lane.{Lane}
-use Rattle.css_world.specs.Clocks.{least_next}
+use Rattle.css_world.specs.Clocks.{Seen, least_next, last_reading, has_woken}
 use Rattle.css_world.specs.Numbering.{stored}
 use Rattle.css_world.specs.Sessions.{peer_of, setup_of}
-use Rattle.css_moments.specs.Standing as drifts
 use Rattle.css_world.specs.Flights.{Session, unopened, SessionStands, HasNews, with_news, with_written, news_of}
 use Rattle.css_world.specs.Flights.{first_in, rest_in}
 use Rattle.css_world.specs.Verdicts.{local_of, played}
@@ -44,15 +43,13 @@ abbrev pub LanesStand : List TvEvent → (ℕ → History) → List Lane → Typ
 LanesStand events own lanes = (who : ℕ) (lane : Lane) → stored lanes who ≡ Some lane
     → LaneStands who events (own who) lane
 
--- What is always true of the lane of companion `who`: it is as the header declares, and its companion may be asked at
--- each reading that may come next, also after a sleep.
-pub record IsLaneOf (header : Header) (who : ℕ) (lane : Lane) : Type 0 where
+-- What is always true of the lane of companion `who` after lines: it is as the header declares, and its companion may
+-- be asked at each reading that may come next, also after a sleep.
+pub record IsLaneOf (header : Header) (who : ℕ) (seen : List Seen) (lane : Lane) : Type 0 where
   pub own : companions.own_of lane.companion ≡ local_of who header
   pub setup : lane.companion.setup ≡ setup_of who header
-  pub error : lane.clock.drift.error ≡ (local_of who header).error
-  pub precision : lane.clock.precision ≡ (local_of who header).precision
-  pub floor : lane.companion.client.floor ≤ least_next lane.clock.woken lane.clock.last
-  pub after_sleep : lane.companion.client.after_sleep ≤ least_next true lane.clock.last
+  pub floor : lane.companion.client.floor ≤ least_next (has_woken seen) (last_reading seen)
+  pub after_sleep : lane.companion.client.after_sleep ≤ least_next true (last_reading seen)
 
 -- what a companion of a schedule asks of the television
 abbrev pub setup_by : CompanionLine → Setup
@@ -66,12 +63,6 @@ pub record IsFresh (declared : CompanionLine) (lane : Lane) : Type 0 where
   pub floor : lane.companion.client.floor ≡ 0
   pub after_sleep : lane.companion.client.after_sleep ≡ 0
   pub stands : companions.StandsFor lane.companion []
-  pub error : lane.clock.drift.error ≡ declared.local.error
-  pub drift : lane.clock.drift.last ≡ None
-  pub drifts : drifts.StandsFor lane.clock.drift []
-  pub precision : lane.clock.precision ≡ declared.local.precision
-  pub last : lane.clock.last ≡ None
-  pub woken : lane.clock.woken ≡ false
   pub cii : lane.cii ≡ unopened
   pub ts : lane.ts ≡ unopened
 
@@ -82,16 +73,9 @@ pub record AreFresh (companions : List CompanionLine) (lanes : List Lane) : Type
       → stored lanes who ≡ Some lane → IsFresh declared lane
 
 -- ---- one lane of all
--- each lane keeps its clock and its companion
+-- each lane keeps its companion
 pub record KeepsAllButTexts (old new : List Lane) : Type 0 where
-  pub clocks : map (λ (lane : Lane). lane.clock) new ≡ map (λ (lane : Lane). lane.clock) old
   pub companions : map (λ (lane : Lane). lane.companion) new ≡ map (λ (lane : Lane). lane.companion) old
-
--- The clock was last read so, after the last sleep.
-pub record WasRead (lane : Lane) (reading : ℕ) : Type 0 where
-  pub line : ℕ
-  pub last : lane.clock.last ≡ Some (record { line = line; value = reading })
-  pub awake : lane.clock.woken ≡ false
 
 -- ---- one session of a lane
 -- the session of that kind
@@ -116,7 +100,6 @@ taken_at k lane = record {
 
 -- Nothing but the session of that kind was touched.
 pub record KeepsAllBut (k : Kind) (old new : Lane) : Type 0 where
-  pub clock : new.clock ≡ old.clock
   pub companion : new.companion ≡ old.companion
   pub other : session_at (other k) new ≡ session_at (other k) old
 

@@ -1,6 +1,6 @@
 -- Which lines of a schedule a world stands for.
-use Rattle.std.specs.Prelude.{ℕ, ◌≡◌, ◌<◌, ◌≤◌, true, false, if◌then◌else◌, map, List, [], ◌∷◌, ◌++◌, length}
-use Rattle.std.specs.Prelude.{Option, Some, None, Result, Ok, Err, OnOk}
+use Rattle.std.specs.Prelude.{ℕ, ◌≡◌, ◌<◌, ◌≤◌, false, if◌then◌else◌, map, List, [], ◌∷◌, ◌++◌, length}
+use Rattle.std.specs.Prelude.{Option, Some, None, Result, Ok, Err, OnOk, IfSome}
 use Rattle.std.specs.Option.{option_map, ForSome}
 use Rattle.std.specs.Result.{result_map_both}
 use Rattle.std.specs.List.{AllByRecursion}
@@ -16,6 +16,8 @@ use Rattle.css_tv.specs.declared.event.TvEvent.{TvEvent}
 use Rattle.css_tv.specs.declared.event.TvEvent.TheVariants as tv_events
 use Rattle.css_schedule.specs.Ranges.{IsLine, IsSecond}
 use Rattle.css_schedule.specs.declared.header.Header.{Header}
+use Rattle.css_schedule.specs.declared.header.CompanionLine.{CompanionLine}
+use Rattle.css_schedule.specs.declared.line.Line.{Line}
 use Rattle.css_schedule.specs.declared.line.Verb.{Verb}
 use Rattle.css_schedule.specs.declared.line.Verb.TheVariants as verbs
 use Rattle.css_moments.specs.Standing as drifts
@@ -23,19 +25,24 @@ use Rattle.css_world.specs.declared.fault.WorldFault.{WorldFault}
 use Rattle.css_world.specs.declared.fault.WorldFault.TheVariants as faults
 use Rattle.css_world.specs.declared.lane.Lane.{Lane}
 use Rattle.css_world.specs.declared.television.Television.{Television}
+use Rattle.css_world.specs.declared.both.Ends.{Ends}
+use Rattle.css_world.specs.declared.clocks.Clocks.{Clocks}
+use Rattle.css_world.specs.declared.watch.Watch.{Watch}
 use Rattle.css_world.specs.Numbering.{numbered, stored}
 use Rattle.css_world.specs.Sessions.{addresses}
 use Rattle.css_world.specs.Happened.{Numbered, requests, askers, tickets, taken_for, datagrams, made_for, is_given}
+use Rattle.css_world.specs.Happened.{server_of}
 use Rattle.css_world.specs.Happened.{events_of, history_of}
-use Rattle.css_world.specs.Clocks.{told_by, last_reading, has_woken}
-use Rattle.css_world.specs.Verdicts.{IsDeclared, seen_of_tv, seen_of, shown_tested, reading_tested}
+use Rattle.css_world.specs.Clocks.{Seen, told_by, last_reading, has_woken, least_next}
+use Rattle.css_world.specs.Verdicts.{IsDeclared, local_of, own_reading, seen_of_tv, seen_of, shown_tested}
+use Rattle.css_world.specs.Verdicts.{reading_tested}
 use Rattle.css_world.specs.Verdicts.{can_happen, event_at, played, carried_out, line_meant}
-use Rattle.css_world.specs.Lanes.{LanesStand, IsLaneOf, WasRead}
+use Rattle.css_world.specs.Lanes.{LanesStand, IsLaneOf}
 
--- What a world keeps: the header; the television and the companions' lanes; and the oldest first, the bytes of all
--- requests with the companions that sent them, the companions whose requests were taken, and the bytes of all datagrams
--- with the companions that they answer.
-pub record World : Type 0 where
+-- What both ends keep: the header, by which they were made; the television and the companions' lanes; and the oldest
+-- first, the bytes of all requests with the companions that sent them, the companions whose requests were taken, and
+-- the bytes of all datagrams with the companions that they answer.
+pub record Kept : Type 0 where
   pub header : Header
   pub tv : Television
   pub lanes : List Lane
@@ -45,36 +52,24 @@ pub record World : Type 0 where
   pub datagrams : List (List ℕ)
   pub made_for : List ℕ
 
--- what is kept in these parts
-abbrev pub kept_as : Header → Television → List Lane → List (List ℕ) → List ℕ → List ℕ → List (List ℕ) → List ℕ → World
-kept_as header tv lanes requests askers taken_for datagrams made_for = record {
+-- what the ends of a schedule with this header keep
+abbrev pub kept : Header → Ends → Kept
+kept header ends = record {
   header = header;
-  tv = tv;
-  lanes = lanes;
-  requests = requests;
-  askers = askers;
-  taken_for = taken_for;
-  datagrams = datagrams;
-  made_for = made_for;
+  tv = ends.tv;
+  lanes = ends.lanes.list.items;
+  requests = ends.requests.items;
+  askers = ends.askers.items;
+  taken_for = ends.taken_for.items;
+  datagrams = ends.datagrams.items;
+  made_for = ends.made_for.items;
 }
 
--- what is always true of a world
-pub record IsWorld (world : World) : Type 0 where
-  pub declared : IsDeclared world.header
-  pub tv_error : world.tv.clock.drift.error ≡ world.header.tv_error
-  pub tv_precision : world.tv.clock.precision ≡ precision_ns world.header.tv_precision
-  pub tv_awake : world.tv.clock.woken ≡ false
-  pub server_precision : world.tv.tv.server.precision ≡ world.header.tv_precision
-  pub server_error : world.tv.tv.server.error ≡ world.header.tv_error
-  pub server_follow : world.tv.tv.server.follow ≡ world.header.follow
-  pub addresses : world.tv.tv.stage.addresses ≡ addresses
-  pub count : length world.lanes ≡ length world.header.companions
-  pub lanes : (who : ℕ) (lane : Lane) → stored world.lanes who ≡ Some lane → IsLaneOf world.header who lane
-
--- the number of a companion of the world
-pub record IsNumber (world : World) (who : ℕ) : Type 0 where
-  pub first : 1 ≤ who
-  pub within : who ≤ length world.lanes
+-- What a world keeps.
+pub record World : Type 0 where
+  pub header : Header
+  pub clocks : Clocks
+  pub ends : Ends
 
 -- a server declares what it did before
 pub record DeclaresTheSame (old new : Server) : Type 0 where
@@ -83,62 +78,59 @@ pub record DeclaresTheSame (old new : Server) : Type 0 where
   pub follow : new.follow ≡ old.follow
 
 -- ---- the clocks
--- the drifts were told of these lines
-pub record DriftsStand (world : World) (lines : List Numbered) : Type 0 where
-  pub tv : drifts.StandsFor world.tv.clock.drift (told_by (seen_of_tv lines))
-  pub own : (who : ℕ) (lane : Lane) → stored world.lanes who ≡ Some lane
-      → drifts.StandsFor lane.clock.drift (told_by (seen_of who lines))
+-- A watch is that of an oscillator and a precision. Its drift was told of what the end's clock showed, and its last
+-- reading and whether the end slept since are those that were read.
+pub record WatchStands (allowed near : ℕ) (shown read : List Seen) (watch : Watch) : Type 0 where
+  pub error : watch.drift.error ≡ allowed
+  pub precision : watch.precision ≡ near
+  pub drift : drifts.StandsFor watch.drift (told_by shown)
+  pub last : watch.last ≡ last_reading read
+  pub woken : watch.woken ≡ has_woken read
 
--- The last readings of a lane are those of these lines, and it knows whether its companion slept since.
-pub record LaneIsRead (who : ℕ) (lines : List Numbered) (lane : Lane) : Type 0 where
-  pub last : lane.clock.last ≡ last_reading (seen_of who lines)
-  pub woken : lane.clock.woken ≡ has_woken (seen_of who lines)
+-- The clocks were shown some lines, and read at some.
+pub record ClocksStand (header : Header) (clocks : Clocks) (shown read : List Numbered) : Type 0 where
+  pub tv : WatchStands header.tv_error (precision_ns header.tv_precision) (seen_of_tv shown) (seen_of_tv read) clocks.tv
+  pub count : length clocks.own.items ≡ length header.companions
+  pub own : (who : ℕ) (watch : Watch) → stored clocks.own.items who ≡ Some watch
+      → WatchStands (local_of who header).error (local_of who header).precision (seen_of who shown) (seen_of who read)
+      watch
 
--- the last readings are those of these lines
-pub record ReadingsStand (world : World) (lines : List Numbered) : Type 0 where
-  pub tv : world.tv.clock.last ≡ last_reading (seen_of_tv lines)
-  pub own : (who : ℕ) (lane : Lane) → stored world.lanes who ≡ Some lane → LaneIsRead who lines lane
+-- a new watch for each of these companions
+abbrev pub IsNew : CompanionLine → Watch → Type 0
+IsNew declared watch = WatchStands declared.local.error declared.local.precision [] [] watch
 
--- The drifts answered what the lines before told them of a line, and then stand for it too.
-abbrev pub ShowsBy : World → Result (Unit {0}) WorldFault → Numbered → Type 0
-ShowsBy old result now = (lines : List Numbered) → DriftsStand old lines → result ≡ shown_tested old.header lines now
+pub record AreNew (companions : List CompanionLine) (own : List Watch) : Type 0 where
+  pub count : length own ≡ length companions
+  pub each : (who : ℕ) (declared : CompanionLine) (watch : Watch) → stored companions who ≡ Some declared
+      → stored own who ≡ Some watch → IsNew declared watch
 
-abbrev pub ShownTo : World → World → Result (Unit {0}) WorldFault → Numbered → Type 0
-ShownTo old new result now = (lines : List Numbered) → DriftsStand old lines
-    → OnOk result (DriftsStand new (now ∷ lines))
+-- the clocks answered what the lines before told them of a line, and were then shown it too
+abbrev pub ShowsBy : Clocks → Result (Unit {0}) WorldFault → Numbered → Type 0
+ShowsBy old result now = (header : Header) (lines : List Numbered) → ClocksStand header old lines lines
+    → result ≡ shown_tested header lines now
 
--- The reading of a line was tested by those of the lines before, and is then the last one.
-abbrev pub ReadsBy : World → Result (Unit {0}) WorldFault → Numbered → Type 0
-ReadsBy old result now = (lines : List Numbered) → ReadingsStand old lines
-    → result ≡ reading_tested old.header lines now
+abbrev pub ShownTo : Clocks → Clocks → Result (Unit {0}) WorldFault → Numbered → Type 0
+ShownTo old new result now = (header : Header) (lines : List Numbered) → ClocksStand header old lines lines
+    → OnOk result (ClocksStand header new (now ∷ lines) lines)
 
-abbrev pub ReadTo : World → World → Result (Unit {0}) WorldFault → Numbered → Type 0
-ReadTo old new result now = (lines : List Numbered) → ReadingsStand old lines
-    → OnOk result (ReadingsStand new (now ∷ lines))
+-- the reading of a line was tested by those of the lines before, and is then the last one
+abbrev pub ReadsBy : Clocks → Result (Unit {0}) WorldFault → Numbered → Type 0
+ReadsBy old result now = (header : Header) (shown lines : List Numbered) → ClocksStand header old shown lines
+    → result ≡ reading_tested header lines now
 
--- the clock of companion `who` was last read so
-abbrev pub HasRead : World → ℕ → ℕ → Type 0
-HasRead world who reading = (lane : Lane) → stored world.lanes who ≡ Some lane → WasRead lane reading
+abbrev pub ReadTo : Clocks → Clocks → Result (Unit {0}) WorldFault → Numbered → Type 0
+ReadTo old new result now = (header : Header) (shown lines : List Numbered) → ClocksStand header old shown lines
+    → OnOk result (ClocksStand header new shown (now ∷ lines))
 
--- companion `who` slept since its clock was last read
-abbrev pub HasWoken : World → ℕ → Type 0
-HasWoken world who = (lane : Lane) → stored world.lanes who ≡ Some lane → lane.clock.woken ≡ true
+-- the line comes after the last one that each drift was told of
+pub record AreNext (clocks : Clocks) (number : ℕ) : Type 0 where
+  pub tv : ForSome clocks.tv.drift.last (λ last. last.line < number)
+  pub own : (who : ℕ) (watch : Watch) → stored clocks.own.items who ≡ Some watch
+      → ForSome watch.drift.last (λ last. last.line < number)
 
--- the line comes after the last one that each companion's drift was told of
-abbrev pub AreNext : World → ℕ → Type 0
-AreNext world number = (who : ℕ) (lane : Lane) → stored world.lanes who ≡ Some lane
-    → ForSome lane.clock.drift.last (λ last. last.line < number)
-
--- no reading was taken, and no companion's reading has to be greater than before
-pub record KeepsReadings (old new : World) : Type 0 where
-  pub tv : new.tv.clock.last ≡ old.tv.clock.last
-  pub last : map (λ (lane : Lane). lane.clock.last) new.lanes ≡ map (λ (lane : Lane). lane.clock.last) old.lanes
-  pub woken : map (λ (lane : Lane). lane.clock.woken) new.lanes ≡ map (λ (lane : Lane). lane.clock.woken) old.lanes
-
--- no drift was told anything
-pub record KeepsDrifts (old new : World) : Type 0 where
-  pub tv : new.tv.clock.drift ≡ old.tv.clock.drift
-  pub own : map (λ (lane : Lane). lane.clock.drift) new.lanes ≡ map (λ (lane : Lane). lane.clock.drift) old.lanes
+-- the reading isn't below the least one that companion `who` may take next of its clock
+abbrev pub MayRead : ℕ → List Numbered → ℕ → Type 0
+MayRead who lines reading = least_next (has_woken (seen_of who lines)) (last_reading (seen_of who lines)) ≤ reading
 
 -- ---- what is stored
 -- Items, the oldest first, are those of a list with the newest first, each as it is seen.
@@ -161,7 +153,7 @@ open_ticket lines take ticket = if is_given take lines then None else Some ticke
 -- ---- the ends
 -- The television and the companions stand for these lines, and what was sent is stored. No request is out of range, and
 -- no answer was given to a take that wasn't made.
-pub record EndsStand (world : World) (lines : List Numbered) : Type 0 where
+pub record EndsStand (world : Kept) (lines : List Numbered) : Type 0 where
   pub lanes : LanesStand (events_of world.header lines) (λ who. history_of who world.header lines) world.lanes
   pub stage : tvs.StandsFor world.tv.tv.stage (events_of world.header lines)
   pub server : servers.StandsFor world.tv.tv.server (tickets world.header lines)
@@ -173,6 +165,15 @@ pub record EndsStand (world : World) (lines : List Numbered) : Type 0 where
   pub taken_for : AreStored owner world.taken_for (taken_for lines)
   pub datagrams : AreStored (λ number. encoded) world.datagrams (datagrams world.header lines)
   pub made_for : AreStored owner world.made_for (made_for world.header lines)
+
+-- What is always so: the television declares what the header does, and is reached where it says; each companion of the
+-- header has its lane.
+pub record EndsAre (ends : Kept) (lines : List Numbered) : Type 0 where
+  pub declares : DeclaresTheSame (server_of ends.header) ends.tv.tv.server
+  pub addresses : ends.tv.tv.stage.addresses ≡ addresses
+  pub count : length ends.lanes ≡ length ends.header.companions
+  pub lanes : (who : ℕ) (lane : Lane) → stored ends.lanes who ≡ Some lane
+      → IsLaneOf ends.header who (seen_of who lines) lane
 
 -- ---- the world
 -- the line comes after the last one
@@ -189,14 +190,18 @@ AreAccepted header (now ∷ older) =
     × ((printed : List ℕ) × (line_meant header older now ≡ Ok printed))
     × AreAccepted header older
 
--- The world stands for these lines: what its header declares is in range, all lines were accepted, and its clocks, its
--- ends and what was sent are those of the lines.
-pub record StandsFor (world : World) (lines : List Numbered) : Type 0 where
+-- The ends are ready for one more line: what the header declares is in range, the lines before it were accepted, and
+-- the ends are those of the lines.
+pub record IsReady (world : Kept) (lines : List Numbered) : Type 0 where
   pub declared : IsDeclared world.header
   pub accepted : AreAccepted world.header lines
-  pub drifts : DriftsStand world lines
-  pub readings : ReadingsStand world lines
+  pub are : EndsAre world lines
   pub ends : EndsStand world lines
+
+-- The world stands for these lines: so do its clocks and its ends.
+pub record StandsFor (world : World) (lines : List Numbered) : Type 0 where
+  pub clocks : ClocksStand world.header world.clocks lines lines
+  pub ready : IsReady (kept world.header world.ends) lines
 
 -- what is added to what was printed before
 abbrev pub appended : List ℕ → Result (List ℕ) WorldFault → Result (List ℕ) WorldFault
@@ -213,11 +218,6 @@ abbrev pub GoesOn : World → World → Result (Unit {0}) WorldFault → Numbere
 GoesOn old new result now = (lines : List Numbered) → StandsFor old lines → IsNext now.number lines
     → OnOk result (StandsFor new (now ∷ lines))
 
--- the world is ready for one more line: those before it were accepted, and its ends are those of the lines
-pub record IsReady (world : World) (lines : List Numbered) : Type 0 where
-  pub accepted : AreAccepted world.header lines
-  pub ends : EndsStand world lines
-
 -- ---- what a call does
 -- whether what a line says can be carried out: it can't happen, or the player refuses it
 abbrev pub carried : Header → List Numbered → ℕ → Verb → Result (Unit {0}) WorldFault
@@ -226,15 +226,29 @@ carried header older who verb =
     then played (events_of header older) (event_at header older who verb) else Err faults.Absent
 
 -- the call answers that, or it answers want of memory; and what was carried out happened at both ends
-pub record Carries (old new : World) (result : Result (Unit {0}) WorldFault) (lines : List Numbered) (now : Numbered)
+pub record Carries (old new : Kept) (result : Result (Unit {0}) WorldFault) (lines : List Numbered) (now : Numbered)
     (who : ℕ) (verb : Verb) : Type 0 where
   pub answer : GivesBy (λ x. x) faults.Memory result (carried old.header lines who verb)
+  pub are : OnOk result (EndsAre new (now ∷ lines))
   pub ends : OnOk result (EndsStand new (now ∷ lines))
 
--- The world carried out what happens at a line of companion `who`, or told why it can't.
-abbrev pub CarriesOut : World → World → Result (Unit {0}) WorldFault → ℕ → Verb → Type 0
-CarriesOut old new result who verb = (lines : List Numbered) (now : Numbered)
-    → now.line.who ≡ who → now.line.verb ≡ verb → IsReady old lines → Carries old new result lines now who verb
+-- the line may be taken: a companion's reading at it is one that may come next
+abbrev pub MayTake : ℕ → List Numbered → Verb → Type 0
+MayTake who lines verb = IfSome (own_reading verb) (MayRead who lines)
+
+-- The ends carried out what happens at a line of companion `who`, or told why they can't.
+abbrev pub CarriesOut : Ends → Ends → Result (Unit {0}) WorldFault → ℕ → Verb → Type 0
+CarriesOut old new result who verb = (header : Header) (lines : List Numbered) (now : Numbered)
+    → now.line.who ≡ who → now.line.verb ≡ verb → IsReady (kept header old) lines → MayTake who lines verb
+    → Carries (kept header old) (kept header new) result lines now who verb
+
+-- the ends are ready for some line, and for one at which companion `who` reads its clock so
+abbrev pub Ready : Ends → Type 0
+Ready ends = (header : Header) × (lines : List Numbered) × IsReady (kept header ends) lines
+
+abbrev pub ReadyAt : Ends → ℕ → ℕ → Type 0
+ReadyAt ends who reading =
+    (header : Header) × (lines : List Numbered) × IsReady (kept header ends) lines × MayRead who lines reading
 
 -- a verb is this event of the television, and nothing else happens at it
 abbrev pub IsAtTv : Verb → TvEvent → Type 0
@@ -242,26 +256,6 @@ IsAtTv (verbs.Programme content_id) event = event ≡ tv_events.Programme conten
 IsAtTv (verbs.Timeline programme selector rate base) event = event ≡ tv_events.AddTimeline programme selector rate base
 IsAtTv (verbs.Viewer reading command) event = event ≡ tv_events.Viewer command reading
 IsAtTv _ event = ⊥
-
--- no clock was touched
-pub record KeepsClocks (old new : World) : Type 0 where
-  pub header : new.header ≡ old.header
-  pub tv : new.tv.clock ≡ old.tv.clock
-  pub own : map (λ (lane : Lane). lane.clock) new.lanes ≡ map (λ (lane : Lane). lane.clock) old.lanes
-
--- nothing but the clocks was touched
-pub record KeepsEnds (old new : World) : Type 0 where
-  pub header : new.header ≡ old.header
-  pub tv : new.tv.tv ≡ old.tv.tv
-  pub takes : new.tv.takes.items ≡ old.tv.takes.items
-  pub companions : map (λ (lane : Lane). lane.companion) new.lanes ≡ map (λ (lane : Lane). lane.companion) old.lanes
-  pub cii : map (λ (lane : Lane). lane.cii) new.lanes ≡ map (λ (lane : Lane). lane.cii) old.lanes
-  pub ts : map (λ (lane : Lane). lane.ts) new.lanes ≡ map (λ (lane : Lane). lane.ts) old.lanes
-  pub requests : new.requests ≡ old.requests
-  pub askers : new.askers ≡ old.askers
-  pub taken_for : new.taken_for ≡ old.taken_for
-  pub datagrams : new.datagrams ≡ old.datagrams
-  pub made_for : new.made_for ≡ old.made_for
 
 -- The answer to a ticket, as its datagrams.
 pub record IsAnswerTo (server : Server) (ticket : Ticket) (reading : ℕ) (answered : Answered) : Type 0 where
@@ -275,29 +269,37 @@ Answers server reading (Some ticket) (Some answered) = IsAnswerTo server ticket 
 Answers server reading None (Some answered) = ⊥
 Answers server reading (Some ticket) None = ⊥
 
+-- and for this line
+abbrev pub ReadyFor : Ends → Line → Type 0
+ReadyFor ends line =
+    (header : Header) × (lines : List Numbered) × IsReady (kept header ends) lines × MayTake line.who lines line.verb
+
 -- what a call printed is what is printed for a line, or it told why nothing is; and it was carried out at both ends
-pub record PrintsFor (old new : World) (before after : List ℕ) (result : Result (Unit {0}) WorldFault)
+pub record PrintsFor (old new : Kept) (before after : List ℕ) (result : Result (Unit {0}) WorldFault)
     (lines : List Numbered) (now : Numbered) : Type 0 where
   pub answer : LeavesBy faults.Memory result before after (appended before (carried_out old.header lines now))
+  pub are : OnOk result (EndsAre new (now ∷ lines))
   pub ends : OnOk result (EndsStand new (now ∷ lines))
 
--- a call that printed adds this to what was printed before, whatever lines the world stands for
-abbrev pub Adds : World → List ℕ → List ℕ → Result (Unit {0}) WorldFault → (List Numbered → List ℕ) → Type 0
-Adds world before after result printed = (lines : List Numbered) → EndsStand world lines
-    → OnOk result (after ≡ before ++ printed lines)
+-- a call that printed adds this to what was printed before, whatever lines the ends stand for
+abbrev pub Adds : Ends → List ℕ → List ℕ → Result (Unit {0}) WorldFault → (Header → List Numbered → List ℕ) → Type 0
+Adds ends before after result printed = (header : Header) (lines : List Numbered) → IsReady (kept header ends) lines
+    → OnOk result (after ≡ before ++ printed header lines)
 
--- The world carried out what happens at a line and printed what is printed for it, or told why it can't and printed
+-- The ends carried out what happens at a line and printed what is printed for it, or told why they can't and printed
 -- nothing.
-abbrev pub Prints : World → World → List ℕ → List ℕ → Result (Unit {0}) WorldFault → Numbered → Type 0
-Prints old new before after result now = (lines : List Numbered)
-    → IsReady old lines → PrintsFor old new before after result lines now
+abbrev pub Prints : Ends → Ends → List ℕ → List ℕ → Result (Unit {0}) WorldFault → Numbered → Type 0
+Prints old new before after result now = (header : Header) (lines : List Numbered)
+    → IsReady (kept header old) lines → MayTake now.line.who lines now.line.verb
+    → PrintsFor (kept header old) (kept header new) before after result lines now
 
 -- the television and the companions are as before
-pub record KeepsBoth (old new : World) : Type 0 where
+pub record KeepsBoth (old new : Ends) : Type 0 where
   pub tv : new.tv.tv ≡ old.tv.tv
-  pub companions : map (λ (lane : Lane). lane.companion) new.lanes ≡ map (λ (lane : Lane). lane.companion) old.lanes
+  pub companions : map (λ (lane : Lane). lane.companion) new.lanes.list.items
+      ≡ map (λ (lane : Lane). lane.companion) old.lanes.list.items
 
 -- so they are after a refusal that isn't want of memory
-abbrev pub KeepsRefused : World → World → WorldFault → Type 0
+abbrev pub KeepsRefused : Ends → Ends → WorldFault → Type 0
 KeepsRefused old new faults.Memory = Unit {0}
 KeepsRefused old new _ = KeepsBoth old new

@@ -10,7 +10,6 @@ ghost use Rattle.css_world.specs.Sessions as sessions;
 
 use crate::fault::WorldFault;
 use crate::session::{Session, peer_of};
-use crate::watch::Watch;
 use css_companion::{Companion, CompanionConfig, CompanionEvent, CompanionFault};
 use css_num::{Memory, Text};
 use css_schedule::CompanionLine;
@@ -18,10 +17,9 @@ use css_sessions::Kind;
 use css_tv::TvOut;
 use std::alloc::Global;
 
-/// A companion of a schedule: its clock, what it does, and its two sessions.
+/// A companion of a schedule: what it does, and its two sessions.
 #[derive(Drop)]
 pub(crate) struct Lane {
-    pub(crate) clock: Watch,
     pub(crate) companion: Companion,
     pub(crate) cii: Session,
     pub(crate) ts: Session,
@@ -39,7 +37,6 @@ impl Lane {
             local,
         };
         Ok(Lane {
-            clock: Watch::new(local.error, local.precision),
             companion: Companion::new(alloc, config)?,
             cii: Session::new(alloc),
             ts: Session::new(alloc),
@@ -86,7 +83,7 @@ impl Lane {
     pub(crate) fn greet(&mut self, kind: Kind) -> Result<(), Memory>
         ensures ok { OnOk result (lanes.Greets kind self.old self.new) }
         ensures stands { lanes.StandsGreeted result kind self.old.companion self.new.companion }
-        ensures rest { (self.new.clock ≡ self.old.clock) × (self.new.cii ≡ self.old.cii) }
+        ensures rest { self.new.cii ≡ self.old.cii }
         ensures client { self.new.companion.client ≡ self.old.companion.client }
         ensures setup { self.new.companion.setup ≡ self.old.companion.setup }
     {
@@ -101,7 +98,7 @@ impl Lane {
         requires first { 1 ≤ who }
         requires few { who < 2147483648 }
         ensures told { OnOk result (lanes.TakesUp who (out ∷ []) self.old self.new) }
-        ensures rest { (self.new.clock ≡ self.old.clock) × (self.new.companion ≡ self.old.companion) }
+        ensures rest { self.new.companion ≡ self.old.companion }
     {
         let TvOut::Say { peer, text } = out else {
             return Ok(());
@@ -121,7 +118,7 @@ impl Lane {
         requires taken { lanes.IsTaken self.old.companion event }
         ensures ok { OnOk result (lanes.Attends self.old self.new event) }
         ensures stands { lanes.StandsOn result self.old.companion self.new.companion event }
-        ensures rest { (self.new.clock ≡ self.old.clock) × (self.new.cii ≡ self.old.cii) }
+        ensures rest { self.new.cii ≡ self.old.cii }
         ensures client { self.new.companion.client ≡ self.old.companion.client }
         ensures setup { self.new.companion.setup ≡ self.old.companion.setup }
     {

@@ -1,4 +1,4 @@
-ghost use Rattle.std.specs.Prelude.{◌≡◌, ◌≤◌, [], ◌∷◌, length, ℕ, None, Some, All, IfOk, IfNone, IfSome, OnOk, vec_len};
+ghost use Rattle.std.specs.Prelude.{◌≡◌, ◌≤◌, [], ◌∷◌, length, ℕ, None, Some, All, IfOk, IfNone, IfSome, OnOk};
 ghost use Rattle.std.specs.Borrow.{sem};
 ghost use Rattle.css_schedule.specs.Headers.{max_companions};
 ghost use Rattle.css_schedule.specs.Ranges.{IsCompanion};
@@ -47,7 +47,7 @@ impl Lanes {
     /// The lane of the companion with this number, which there is.
     pub(crate) fn lane(&mut self, who: u32) -> &mut Lane
         requires first { 1 ≤ who }
-        requires within { who ≤ vec_len self.old.list }
+        requires within { who ≤ length self.old.list.items }
         ensures* lends { sem 𝓛 (LendsLane self.entry who result) }
         ensures value { stored self.old.list.items who ≡ Some result.now }
     {

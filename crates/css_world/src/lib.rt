@@ -4,6 +4,8 @@
 //! first line that contradicts one is refused. So what is printed is true of that world, with no premise left.
 #![tactic(auto)]
 
+mod both;
+mod clocks;
 mod fault;
 mod lane;
 mod lanes;

@@ -1,28 +1,26 @@
-ghost use Rattle.std.specs.Prelude.{List, IfErr};
+ghost use Rattle.std.specs.Prelude.{◌≤◌, IfErr, length};
 ghost use Rattle.css_schedule.specs.declared.line.Verb.TheVariants as events;
 ghost use Rattle.css_companion.specs.Steps.{window};
 ghost use Rattle.css_tsmsg.specs.Presentations.{IsPresentation};
-ghost use Rattle.css_world.specs.Happened.{Numbered};
-ghost use Rattle.css_world.specs.Standing.{IsReady, IsNumber, CarriesOut, KeepsClocks, KeepsRefused};
+ghost use Rattle.css_world.specs.Standing.{Ready, CarriesOut, KeepsRefused};
 
+use crate::both::Ends;
 use crate::fault::WorldFault;
 use crate::lane::{closed, heard};
 use crate::session::peer_of;
 use crate::television::play;
-use crate::world::World;
 use css_companion::CompanionEvent;
 use css_sessions::Kind;
 use css_tsmsg::Bound;
 use css_tv::TvEvent;
 
 /// What happens at the sessions of the companions with the television.
-impl World {
+impl Ends {
     /// Opens a session at both ends. The companion owes its setup to a TS session at once.
-    #[tactic(none)]
     pub(crate) fn open(&mut self, who: u32, kind: Kind) -> Result<(), WorldFault>
-        requires who { IsNumber self.old who }
-        requires ready { (lines : List Numbered) × IsReady self.old lines }
-        ensures clocks { KeepsClocks self.old self.new }
+        requires first { 1 ≤ who }
+        requires within { who ≤ length self.old.lanes.list.items }
+        requires ready { Ready self.old }
         ensures carries { CarriesOut self.old self.new result who (events.Opening kind) }
         ensures refused { IfErr result (λ fault. KeepsRefused self.old self.new fault) }
     {
@@ -39,11 +37,10 @@ impl World {
     }
 
     /// Brings the next text in flight to the companion.
-    #[tactic(none)]
     pub(crate) fn bring(&mut self, who: u32, kind: Kind) -> Result<(), WorldFault>
-        requires who { IsNumber self.old who }
-        requires ready { (lines : List Numbered) × IsReady self.old lines }
-        ensures clocks { KeepsClocks self.old self.new }
+        requires first { 1 ≤ who }
+        requires within { who ≤ length self.old.lanes.list.items }
+        requires ready { Ready self.old }
         ensures carries { CarriesOut self.old self.new result who (events.Bring kind) }
         ensures refused { IfErr result (λ fault. KeepsRefused self.old self.new fault) }
     {
@@ -56,10 +53,10 @@ impl World {
     }
 
     /// Brings the companion's next text in flight to the television.
-    #[tactic(none)]
     pub(crate) fn up(&mut self, who: u32) -> Result<(), WorldFault>
-        requires who { IsNumber self.old who }
-        ensures clocks { KeepsClocks self.old self.new }
+        requires first { 1 ≤ who }
+        requires within { who ≤ length self.old.lanes.list.items }
+        requires ready { Ready self.old }
         ensures carries { CarriesOut self.old self.new result who events.Up }
         ensures refused { IfErr result (λ fault. KeepsRefused self.old self.new fault) }
     {
@@ -76,16 +73,15 @@ impl World {
     }
 
     /// The companion sends a presentation.
-    #[tactic(none)]
     pub(crate) fn present(
         &mut self,
         who: u32,
         earliest: Bound,
         latest: Bound,
     ) -> Result<(), WorldFault>
-        requires who { IsNumber self.old who }
+        requires first { 1 ≤ who }
+        requires within { who ≤ length self.old.lanes.list.items }
         requires window { IsPresentation (window earliest latest) }
-        ensures clocks { KeepsClocks self.old self.new }
         ensures carries { CarriesOut self.old self.new result who (events.Present earliest latest) }
         ensures refused { IfErr result (λ fault. KeepsRefused self.old self.new fault) }
     {
@@ -98,11 +94,10 @@ impl World {
     }
 
     /// Closes a session at both ends.
-    #[tactic(none)]
     pub(crate) fn close(&mut self, who: u32, kind: Kind) -> Result<(), WorldFault>
-        requires who { IsNumber self.old who }
-        requires ready { (lines : List Numbered) × IsReady self.old lines }
-        ensures clocks { KeepsClocks self.old self.new }
+        requires first { 1 ≤ who }
+        requires within { who ≤ length self.old.lanes.list.items }
+        requires ready { Ready self.old }
         ensures carries { CarriesOut self.old self.new result who (events.Close kind) }
         ensures refused { IfErr result (λ fault. KeepsRefused self.old self.new fault) }
     {

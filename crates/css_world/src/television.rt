@@ -2,11 +2,9 @@ ghost use Rattle.std.specs.Prelude.{◌≡◌, ◌<◌, ◌≤◌, IfErr, ℕ, l
 ghost use Rattle.std.specs.Prelude.{Ok, IfOk, OnOk, OnErr};
 ghost use Rattle.css_model.specs.Wire.{decoded, request_at};
 ghost use Rattle.css_model.specs.Wire as wire;
-ghost use Rattle.css_model.specs.Numbers as numbers;
 ghost use Rattle.css_server.specs.Tickets.{Ticket as Taken, ticket_for, after_ticket};
 ghost use Rattle.css_server.specs.Exchanges as servers;
 ghost use Rattle.css_schedule.specs.Ranges.{IsHeader};
-ghost use Rattle.css_moments.specs.Standing.{StandsFor};
 ghost use Rattle.css_tv.specs.Standing as tvs;
 ghost use Rattle.css_tv.specs.declared.event.TvEvent.{TvEvent as Event};
 ghost use Rattle.css_schedule.specs.Headers.{max_companions};
@@ -20,13 +18,11 @@ ghost use Rattle.std.specs.Option.{option_flatten};
 use crate::fault::WorldFault;
 use crate::lanes::Lanes;
 use crate::place::place;
-use crate::watch::Watch;
 use css_model::LIMIT;
 use css_num::{Memory, Text};
 use css_schedule::Header;
 use css_server::{Answered, Ticket};
 use css_tv::{Tv, TvConfig, TvEvent};
-use css_wc::precision_ns;
 use std::alloc::Global;
 
 /// Where the television of a schedule is reached. Nobody dials it.
@@ -35,10 +31,9 @@ const HOST: &str = "127.0.0.1";
 /// The port of its wall clock.
 const PORT: u16 = 6677;
 
-/// The television of a schedule: its clock, and what it does.
+/// The television of a schedule: what it does.
 #[derive(Drop)]
 pub(crate) struct Television {
-    pub(crate) clock: Watch,
     pub(crate) tv: Tv,
     /// The tickets of its takes in their order, each until it is answered.
     pub(crate) takes: Vec<Option<Ticket>>,
@@ -47,10 +42,6 @@ pub(crate) struct Television {
 impl Television {
     pub(crate) fn new(alloc: Global, header: &Header) -> Result<Television, Memory>
         requires { IsHeader header.now }
-        ensures error { IfOk result (λ tv. tv.clock.drift.error ≡ header.now.tv_error) }
-        ensures drift { IfOk result (λ tv. (tv.clock.drift.last ≡ None) × StandsFor tv.clock.drift []) }
-        ensures precision { IfOk result (λ tv. tv.clock.precision ≡ numbers.precision_ns header.now.tv_precision) }
-        ensures last { IfOk result (λ tv. (tv.clock.last ≡ None) × (tv.clock.woken ≡ false)) }
         ensures server { IfOk result (λ tv. tv.tv.server ≡ server_of header.now) }
         ensures serves { IfOk result (λ tv. servers.StandsFor tv.tv.server []) }
         ensures addresses { IfOk result (λ tv. tv.tv.stage.addresses ≡ addresses) }
@@ -65,7 +56,6 @@ impl Television {
             port: PORT,
         };
         Ok(Television {
-            clock: Watch::new(header.tv_error, precision_ns(header.tv_precision)),
             tv: Tv::new(alloc, config)?,
             takes: Vec::new(alloc),
         })
@@ -75,7 +65,6 @@ impl Television {
     pub(crate) fn take(&mut self, request: &[u8; 32], reading: u64) -> Result<(), Memory>
         requires request { (asked : ℕ) × (decoded request.now ≡ Ok (request_at asked)) }
         requires reading { reading < LIMIT }
-        ensures clock { self.new.clock ≡ self.old.clock }
         ensures stage { self.new.tv.stage ≡ self.old.tv.stage }
         ensures declared { DeclaresTheSame self.old.tv.server self.new.tv.server }
         ensures stands { (asked : ℕ) (tickets : List Taken) → decoded request.now ≡ Ok (request_at asked)
@@ -99,7 +88,7 @@ impl Television {
         ensures answered { Answers self.old.tv.server reading
             (option_flatten (stored self.old.takes.items take)) result }
         ensures takes { self.new.takes.items ≡ spent self.old.takes.items take }
-        ensures rest { (self.new.clock ≡ self.old.clock) × (self.new.tv ≡ self.old.tv) }
+        ensures rest { self.new.tv ≡ self.old.tv }
     {
         let ticket = self.spend(take)?;
         Some(self.tv.answer(ticket, reading))
@@ -109,7 +98,7 @@ impl Television {
     fn spend(&mut self, take: u32) -> Option<Ticket>
         ensures ticket { result ≡ option_flatten (stored self.old.takes.items take) }
         ensures after { self.new.takes.items ≡ spent self.old.takes.items take }
-        ensures rest { (self.new.clock ≡ self.old.clock) × (self.new.tv ≡ self.old.tv) }
+        ensures rest { self.new.tv ≡ self.old.tv }
     {
         self.takes.get_mut(place(take)?)?.take()
     }

@@ -9,6 +9,5 @@ new-requires c =
 
 pub returns-clause-taken : goal.returns-clause-taken
 returns-clause-taken c =
-    taken_first _ c.args.generator.now c.whole_header.new.generator c.requires.some c.requires.lines c.requires.most
-    c.in_ok-header.ensures.generator c.requires.same (c.in_ok-new.ensures.header ∙ c.in_ok-header.ensures.header)
-    c.in_ok-new.ensures.stands c.new-3.ensures
+    taken_first _ c.args.generator.now.seed c.args.generator.now.companions
+    (c.in_ok-new.ensures.header ∙ c.in_ok-header.ensures.header) c.in_ok-new.ensures.stands c.new-3.ensures

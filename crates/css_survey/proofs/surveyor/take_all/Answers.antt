@@ -1,10 +1,9 @@
--- The lines that were given were taken, one after another.
-use Rattle.std.proofs.Common.{arith}
+-- In the end all lines were taken.
+use Rattle.std.proofs.Common.{arith, subst}
+use Rattle.css_survey.specs.Surveys.{HasTaken}
 use Rattle.css_survey.proofs.surveyor.take_all.Goals as goal
 
-pub overflow_add-number : goal.overflow_add-number
-overflow_add-number c =
-    let number = c.lines.invariant.number in
-    let within = c.lines.invariant.taken.given.within in
-    let few = c.lines.invariant.taken.given.few in
-    omega (arith, number, within, few)
+pub returns : goal.returns
+returns c =
+    subst (HasTaken c.loop-given.survey c.args.generator.now.seed c.args.generator.now.companions) (omega arith)
+    c.loop-given.invariant.taken

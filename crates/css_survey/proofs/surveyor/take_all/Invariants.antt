@@ -1,16 +1,10 @@
-use Rattle.std.proofs.Common.{◌≡◌, ◌+◌, ◌-◌}
+use Rattle.std.proofs.Common.{◌≡◌}
 use Rattle.css_survey.specs.Surveys.{HasTaken}
 use Rattle.css_survey.proofs.surveyor.take_all.Given as goal
 
 -- the lines that were given were taken
-abbrev pub invariant-lines : goal.invariant-lines
-invariant-lines l = record {
-  seed : l.generator.seed ≡ l.fn.generator.seed;
-  lines : l.generator.lines ≡ l.fn.generator.lines;
-  companions : l.generator.companions ≡ l.fn.generator.companions;
-  number : l.number ≡ l.generator.given + 1;
-  taken : HasTaken l.survey l.generator;
+abbrev pub invariant-loop-given : goal.invariant-loop-given
+invariant-loop-given l = record {
+  generator : l.generator ≡ record l.fn.generator { given = l.given };
+  taken : HasTaken l.survey l.fn.generator.seed l.fn.generator.companions l.given;
 }
-
-abbrev pub decreases-lines : goal.decreases-lines
-decreases-lines l = l.fn.generator.lines - l.generator.given

@@ -2,7 +2,8 @@
 use Rattle.std.proofs.Common.{◌≡◌, [], List, length, arith, sym, ap, subst, ◌∙◌}
 use Rattle.css_schedule.specs.Ranges.{IsCompanion}
 use Rattle.css_world.specs.declared.lane.Lane.{Lane}
-use Rattle.css_world.proofs.Fresh.{EachFresh, none_fresh, one_fresh, counts_more}
+use Rattle.css_world.specs.Lanes.{IsFresh}
+use Rattle.css_world.proofs.Fresh.{Each, none_made, one_made, counts_more}
 use Rattle.css_world.proofs.lanes.Lanes.new.Goals as goal
 
 pub loop-companion-init : goal.loop-companion-init
@@ -11,7 +12,7 @@ loop-companion-init c =
     record {
       count = ap (λ (xs : List Lane). length xs) empty;
       within = omega arith;
-      each = subst (EachFresh c.args.companions.now) (sym empty) (none_fresh c.args.companions.now);
+      each = subst (Each IsFresh c.args.companions.now) (sym empty) (none_made IsFresh c.args.companions.now);
     }
 
 pub new-requires : goal.new-requires
@@ -31,8 +32,8 @@ loop-companion-preserved c =
       count = ap (λ (xs : List Lane). length xs) c.in_ok-push.ensures.items
           ∙ counts_more before lane place so_far.count;
       within = omega (arith, c.loop-companion-test.true);
-      each = subst (EachFresh c.args.companions.now) (sym c.in_ok-push.ensures.items)
-          (one_fresh c.args.companions.now before place declared lane so_far.count c.loop-companion-test.true
+      each = subst (Each IsFresh c.args.companions.now) (sym c.in_ok-push.ensures.items)
+          (one_made IsFresh c.args.companions.now before place declared lane so_far.count c.loop-companion-test.true
           c.companion-item.is c.in_ok-lane.ensures so_far.each);
     }
 

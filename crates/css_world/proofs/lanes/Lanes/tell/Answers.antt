@@ -6,7 +6,7 @@ use Rattle.css_world.proofs.lanes.Lanes.tell.Goals as goal
 pub loop-out-init : goal.loop-out-init
 loop-out-init c = record {
   told = none_yet c.args.self.now.list.items;
-  rest = record { clocks = refl; companions = refl };
+  rest = record { companions = refl };
   few = c.requires.few;
 }
 

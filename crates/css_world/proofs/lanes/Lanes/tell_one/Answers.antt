@@ -26,4 +26,4 @@ returns-clause-told c =
 pub returns-clause-rest : goal.returns-clause-rest
 returns-clause-rest c =
     lane_kept c.told_companion-who.result c.args.self.now.list.items c.lane-lane.result.now c.tell.new.self
-    c.lane-lane.ensures.value c.tell.ensures.rest.0 c.tell.ensures.rest.1
+    c.lane-lane.ensures.value c.tell.ensures.rest
