@@ -96,9 +96,9 @@ pub as_due : {w w' c c' : ℕ} {proper : History → Type 0} {due_of : History �
     → HasNotFailed w w' → HasNotFailed c c'
     → (driven_status ended ≡ status.Memory) ⊎ IsMadeAsDue proper due_of before now (driven_status ended)
 as_due history driven.WriteFault told is_proper ends wrote called nw nc =
-    absurd (omega (arith, wrote.risen nw.below, nw.same))
+    absurd (omega (arith, wrote.risen.risen nw.below, nw.same))
 as_due history (driven.NetFault failure) told is_proper ends wrote called nw nc =
-    absurd (omega (arith, called.risen nc.below, nc.same))
+    absurd (omega (arith, called.risen.risen nc.below, nc.same))
 as_due history driven.Memory told is_proper ends wrote called nw nc = inl refl
 as_due history ended told is_proper ends wrote called nw nc =
     inr (record { history = history; told = told; is_proper = is_proper; ended = ended; is_due = ends; tells = refl })
@@ -165,7 +165,7 @@ pairs_as_due config before now companion finished old new (inl memory) counted n
 pairs_as_due config before now companion (Ok ended) old new (inr due) counted none =
     inr (record { companion = companion; due = due; ended = ended; tells = refl })
 pairs_as_due config before now companion (Err (fault.Failed failure)) old new (inr due) counted none =
-    absurd (omega (arith, counted.risen none.below, none.same))
+    absurd (omega (arith, counted.risen.risen none.below, none.same))
 pairs_as_due config before now status.Done (Err fault.Memory) old new (inr due) counted none = inl refl
 pairs_as_due config before now companion (Err fault.Memory) old new (inr due) counted none =
     inr (record { companion = companion; due = due; ended = pos 0; tells = refl })
@@ -205,7 +205,7 @@ module _ {T E Bad : Type 0} (reading : List ℕ → Result T E) (fault : Bad →
   none_at meaning bad is left left_new old new none (stops.BadLine line why) wrote ran =
       none (bad line why) (λ bytes of. is bytes line why (ap (λ (o : Outcome _). o.verdict) (ran bytes of).verdict))
   none_at meaning bad is left left_new old new none stops.WriteFault wrote ran =
-      absurd (omega (arith, wrote.risen (omega arith)))
+      absurd (omega (arith, wrote.risen.risen (omega arith)))
   none_at meaning bad is left left_new old new none _ wrote ran = tt
 
 -- ---- a script

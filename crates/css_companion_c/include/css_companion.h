@@ -143,7 +143,7 @@ enum css_property {
 };
 
 /* A text goes to `out`, which has room for `room` bytes, and its length to *used: also where that is more than `room`,
- * and the code is CSS_NO_ROOM. So NULL and 0 ask for the length. No zero is put behind a text. */
+ * and the code is CSS_NO_ROOM. So NULL and 0 ask for the length. No zero is put behind a text: what is there stays. */
 
 uint32_t css_companion_version(void);
 

@@ -1,5 +1,5 @@
 -- The lead of a tick lies between the leads at both ends of a span of the wall clock.
-use Rattle.std.proofs.Common.{ℕ, ◌+◌, ◌*◌, ◌≤◌, ◌<◌, ◌≡◌, arith, ap, sym, refl, subst, length, Bool, true, false}
+use Rattle.std.proofs.Common.{ℕ, ◌+◌, ◌*◌, ◌≤◌, ◌<◌, ◌≡◌, ◌∙◌, arith, ap, sym, refl, subst, length, Bool, true, false}
 use Rattle.std.specs.Prelude.{ℤ, pos, negsuc, neg_ℤ, int_lt, ◌-ℤ◌, ◌*ℤ◌, ◌≤ℤ◌, ◌<ℤ◌, unsigned_abs}
 use Rattle.std.specs.Prelude.{Option, Some, Result, Ok, ◌&&◌, if◌then◌else◌}
 use Rattle.std.proofs.Math.Nat.{mul-le-mul_left}
@@ -16,7 +16,7 @@ use Rattle.css_companion.specs.Standing.{Companion}
 use Rattle.css_companion.specs.declared.knowledge.Timing.{Timing}
 use Rattle.css_companion.specs.declared.report.Cause.{Cause}
 use Rattle.css_companion_c.specs.Codes.{is_narrow, narrow_code, DONE, TOO_WIDE}
-use Rattle.css_companion_c.specs.Leads.{lead_code, distance, gone, scaled_lead, lead_at, IsBetween, IsLead}
+use Rattle.css_companion_c.specs.Leads.{lead_code, distance, gone, scaled_lead, lead_at, lead_of, IsBetween, IsLead}
 use Rattle.css_companion_c.specs.Leads.{HoldsTheLead}
 use Rattle.css_companion_c.specs.When.{GoesBy}
 use Rattle.css_companion_c.specs.declared.reading.Ends.{Ends}
@@ -124,6 +124,15 @@ told_code span timing tick lead fits same is known goes is_span is_timing =
     (subst (λ (r : Result Timing Cause). code ≡ lead_code (Some span) r tick) is_timing
     (subst (λ (i : Interval). code ≡ narrow_code i.lo i.hi) same
     (ap (λ (b : Bool). if b then DONE else TOO_WIDE) is)))
+
+-- and its ends are told
+pub told_lead : (span : Interval) (timing : Timing) (tick : ℤ) (lead ends : Interval)
+    → lead ≡ lead_at timing tick span → lead ≡ ends
+    → (known : Option Interval) (goes : Result Timing Cause) → Some span ≡ known → Ok timing ≡ goes
+    → lead_of known goes tick ≡ Some ends
+told_lead span timing tick lead ends same fits known goes is_span is_timing =
+    ap (λ (o : Option Interval). lead_of o goes tick) (sym is_span)
+    ∙ ap (λ (r : Result Timing Cause). lead_of (Some span) r tick) (sym is_timing) ∙ ap Some (sym same ∙ fits)
 
 -- so what is told of a span that contains the wall clock holds the lead
 pub holds : (companion : Companion) (reading : ℕ) (tick : ℤ) (span : Interval) (timing : Timing) (ends : Ends)

@@ -17,9 +17,12 @@ use Rattle.css_model.specs.WallClock.{Answer, Local, IsLocal, lower, upper, lo, 
 use Rattle.css_model.specs.WallClock.{least_by, lesser, narrowest, HaveSameNarrowest}
 use Rattle.css_model.proofs.Narrowest.{is_not_less}
 use Rattle.css_model.proofs.Widths.{width_is}
+use Rattle.css_span.specs.Frontiers.{Frontier}
 use Rattle.css_span.specs.WallSpans.{wall_span, span_of}
-use Rattle.css_companion.specs.Standing.{Companion, own_of}
-use Rattle.css_companion_c.specs.Until.{IsNarrow, IsWideAt, limit_of, has_narrow, is_narrow_at}
+use Rattle.css_num.specs.Spans.{Interval}
+use Rattle.css_model.specs.History.{History, accepted_answers}
+use Rattle.css_companion.specs.Standing.{Companion, StandsFor, own_of}
+use Rattle.css_companion_c.specs.Until.{BoundsTheWall, IsNarrow, IsWideAt, limit_of, has_narrow, is_narrow_at}
 
 -- rounding both ends outward adds less than 2
 rounded : (l u w : ℤ) (f g : ℕ) → 0 < f → 0 < g
@@ -165,3 +168,19 @@ wide_at companion width end reading limit is same wide range =
     subst (λ (n : ℕ). n < LIMIT → is_narrow_at limit n companion ≡ false) (sym same) wide range in
     all-wide (own_of companion) (limit_of width (own_of companion)) companion.client.estimate.kept reading
     (subst (λ (z : ℤ). is_narrow_at z reading companion ≡ false) is at_end)
+
+-- the span is that of the kept answers
+kept_span : (companion : Companion) (history : History) (reading : ℕ) → StandsFor companion history
+    → wall_span (own_of companion) reading companion.client.estimate.kept
+    ≡ wall_span (own_of companion) reading (accepted_answers (own_of companion) history)
+kept_span companion history reading known =
+    ap (λ (o : Option Answer). option_map (span_of (own_of companion) reading) o)
+    (known.client.estimate.narrowest reading)
+
+-- so up to such a reading the span that is told is narrow
+pub bounds_the_wall : BoundsTheWall
+bounds_the_wall width last reading span old new before after narrow floor within alike was is told =
+    let P : Option Interval → Type 0 = λ o. IsNarrow width o in
+    subst P (sym (kept_span old before reading was)
+    ∙ ap (λ (e : Frontier). wall_span e.local reading e.kept) (sym alike.0)
+    ∙ kept_span new after reading is ∙ told after is) (narrow.narrow reading floor within before was)

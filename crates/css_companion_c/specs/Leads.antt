@@ -1,12 +1,13 @@
 -- How far ahead of the television somebody is who stands at a tick.
-use Rattle.std.specs.Prelude.{ℕ, ◌*◌, ℤ, pos, ◌-ℤ◌, ◌*ℤ◌, ◌≤ℤ◌, ◌∷◌, length, Option, Some, None, Result, Ok, Err}
+use Rattle.std.specs.Prelude.{ℕ, ◌≡◌, ◌*◌, ℤ, pos, ◌-ℤ◌, ◌*ℤ◌, ◌≤ℤ◌, ◌∷◌, length, Option, Some, None, Result, Ok, Err}
 use Rattle.std.specs.Int.{int_min, int_max}
 use Rattle.css_num.specs.Division.{floor_div, ceil_div}
 use Rattle.css_num.specs.Spans.{Interval}
 use Rattle.css_model.specs.declared.Why.TheVariants as why
 use Rattle.css_model.specs.World.{World, Errors, IsWorldFor}
-use Rattle.css_model.specs.History.{Clock, History}
+use Rattle.css_model.specs.History.{Clock, History, accepted_answers}
 use Rattle.css_model.specs.Explains.{Explains}
+use Rattle.css_span.specs.WallSpans.{wall_span}
 use Rattle.css_companion.specs.Meanings.{timing_after}
 use Rattle.css_companion.specs.Standing.{Companion, StandsFor, own_of}
 use Rattle.css_companion.specs.declared.knowledge.Timing.{Timing}
@@ -51,7 +52,19 @@ abbrev pub lead_code : Option Interval → Result Timing Cause → ℤ → ℕ
 lead_code None timing tick = NO_ANSWER
 lead_code (Some span) timing tick = timed_code span timing tick
 
+-- the lead of a tick by these, if both are known
+abbrev pub lead_of : Option Interval → Result Timing Cause → ℤ → Option Interval
+lead_of (Some span) (Ok timing) tick = Some (lead_at timing tick span)
+lead_of _ _ tick = None
+
 -- ---- what is promised
+-- The ends are the leads over the span of the narrowest accepted answer, by the last control timestamp.
+abbrev pub IsTheLead : ℕ → ℤ → Ends → Companion → Type 0
+IsTheLead reading tick ends companion = (history : History) → StandsFor companion history
+    → lead_of (wall_span (own_of companion) reading (accepted_answers (own_of companion) history))
+    (timing_after companion.setup.selector history) tick
+    ≡ Some (record { lo = ends.lo; hi = ends.hi })
+
 -- the lead of a tick where the wall clock shows a value lies between the ends
 pub record IsBetween (ends : Ends) (timing : Timing) (tick value : ℤ) : Type 0 where
   pub low : (ends.lo *ℤ pos timing.rate.units_per_second) ≤ℤ scaled_lead timing tick value

@@ -1,6 +1,7 @@
 -- What is promised of a companion behind a handle: the theorems of the crates below, for C.
 use Rattle.std.specs.Prelude.{ℕ, ◌≡◌, List, [], Some, Ok}
-use Rattle.css_model.specs.History.{History}
+use Rattle.css_model.specs.History.{History, accepted_answers}
+use Rattle.css_span.specs.WallSpans.{wall_span}
 use Rattle.css_client.specs.Standing.{ContainsTheWall}
 use Rattle.css_companion.specs.Headline.{IsPromised}
 use Rattle.css_companion.specs.Standing.{Companion, StandsFor, own_of, timing_now}
@@ -17,6 +18,12 @@ Adds Fits add old new = (history : History) → Fits history → StandsFor old h
 abbrev pub HoldsTheWall : ℕ → Ends → Companion → Type 0
 HoldsTheWall reading span companion =
     ContainsTheWall companion.client reading (Some (record { lo = span.lo; hi = span.hi }))
+
+-- the span is that of the narrowest accepted answer
+abbrev pub IsTheWall : ℕ → Ends → Companion → Type 0
+IsTheWall reading span companion = (history : History) → StandsFor companion history
+    → wall_span (own_of companion) reading (accepted_answers (own_of companion) history)
+    ≡ Some (record { lo = span.lo; hi = span.hi })
 
 -- The headline. In each such world the ticks contain the position that the last control timestamp assigns to the
 -- television's wall clock; they come from the narrowest accepted answer; and the state of the content was published.

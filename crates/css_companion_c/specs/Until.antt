@@ -9,6 +9,9 @@ use Rattle.css_model.specs.History.{History, accepted_answers}
 use Rattle.css_span.specs.WallSpans.{wall_span}
 use Rattle.css_companion.specs.Standing.{Companion, StandsFor, own_of}
 use Rattle.css_companion_c.specs.Codes.{DONE, NO_ANSWER}
+use Rattle.css_companion_c.specs.Handles.{AnswerAlike}
+use Rattle.css_companion_c.specs.Promises.{IsTheWall}
+use Rattle.css_companion_c.specs.declared.reading.Ends.{Ends}
 
 -- ---- what is told
 -- whether an answer is kept
@@ -39,6 +42,12 @@ abbrev pub IsWideAt : ℕ → ℕ → Companion → Type 0
 IsWideAt width reading companion = reading < LIMIT
     → All (λ answer. limit_of width (own_of companion) <ℤ scaled_width (own_of companion) answer reading)
     companion.client.estimate.kept
+
+-- So up to such a reading the span that is told is at most so wide, also by a companion that answers alike.
+abbrev pub BoundsTheWall : Type 0
+BoundsTheWall = (width last reading : ℕ) (span : Ends) (old new : Companion) (before after : History)
+    → IsNarrowUntil width last old → old.client.floor ≤ reading → reading ≤ last → AnswerAlike old new
+    → StandsFor old before → StandsFor new after → IsTheWall reading span new → (span.hi -ℤ span.lo) ≤ℤ pos width
 
 -- ---- for private clauses
 -- whether one of the answers has at most this scaled width at a reading

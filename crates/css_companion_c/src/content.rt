@@ -1,5 +1,5 @@
 //! What the television told of its content.
-ghost use Rattle.std.specs.Prelude.{◌≡◌, ◌≢◌, ℕ, Some, IfSome, length, take};
+ghost use Rattle.std.specs.Prelude.{◌≡◌, ◌≢◌, ℕ, IfSome, length};
 ghost use Rattle.css_cii.specs.States.{full_change};
 ghost use Rattle.css_cii.specs.Texts.{change_text};
 ghost use Rattle.css_companion_c.specs.Codes.{field_code, room_code, Answers, DONE, NO_ROOM};
@@ -32,7 +32,8 @@ fn property(state: &State, number: u32) -> &Option<Text>
 pub(crate) fn field(companion: &Companion, number: u32, out: &mut [u8], used: &mut usize) -> u32
     ensures kept { result ≢ DONE → out.new ≡ out.old }
     ensures code { result ≡ field_code number (property_of number companion.now.state) (length out.old) }
-    ensures text { result ≡ DONE → property_of number companion.now.state ≡ Some (take used.new out.new) }
+    ensures text { result ≡ DONE → IfSome (property_of number companion.now.state)
+        (λ text. Holds text used.new out.old out.new) }
     ensures needs { result ≡ NO_ROOM → IfSome (property_of number companion.now.state)
         (λ text. used.new ≡ length text) }
 {
@@ -49,7 +50,7 @@ pub(crate) fn field(companion: &Companion, number: u32, out: &mut [u8], used: &m
 pub(crate) fn state(alloc: Global, companion: &Companion, out: &mut [u8], used: &mut usize) -> u32
     ensures kept { result ≢ DONE → out.new ≡ out.old }
     ensures code { Answers DONE (room_code (change_text (full_change companion.now.state)) (length out.old)) result }
-    ensures text { result ≡ DONE → Holds (change_text (full_change companion.now.state)) used.new out.new }
+    ensures text { result ≡ DONE → Holds (change_text (full_change companion.now.state)) used.new out.old out.new }
     ensures needs { result ≡ NO_ROOM → used.new ≡ length (change_text (full_change companion.now.state)) }
 {
     let Ok(change) = full(companion.state()) else {

@@ -8,7 +8,7 @@ ghost use Rattle.css_companion.specs.Meanings.{timing_after};
 ghost use Rattle.css_companion.specs.Standing.{StandsFor, own_of};
 ghost use Rattle.css_companion_c.specs.Codes.{at_reading, DONE};
 ghost use Rattle.css_companion_c.specs.Leads as leads;
-ghost use Rattle.css_companion_c.specs.Leads.{lead_code, HoldsTheLead};
+ghost use Rattle.css_companion_c.specs.Leads.{lead_code, HoldsTheLead, IsTheLead};
 
 use crate::codes;
 use crate::reading::{Ends, cause_code, early, ends_of};
@@ -165,6 +165,7 @@ pub(crate) fn lead(companion: &Companion, reading: u64, tick: i64, out: &mut End
         → StandsFor companion.now history → result ≡ lead_code
         (wall_span (own_of companion.now) reading (accepted_answers (own_of companion.now) history))
         (timing_after companion.now.setup.selector history) tick }
+    ensures lead { result ≡ DONE → IsTheLead reading tick out.new companion.now }
     ensures truth { result ≡ DONE → HoldsTheLead reading tick out.new companion.now }
 {
     let code = early(companion, reading);

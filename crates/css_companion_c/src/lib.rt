@@ -9,13 +9,13 @@ ghost use Rattle.css_model.specs.Wire.{encoded, request_at};
 ghost use Rattle.css_span.specs.WallSpans.{wall_span};
 ghost use Rattle.css_client.specs.Landings.{landing_of};
 ghost use Rattle.css_companion.specs.Meanings.{report_after, timing_after};
-ghost use Rattle.css_companion.specs.Standing.{Companion, StandsFor, own_of};
+ghost use Rattle.css_companion.specs.Standing.{Companion, StandsFor, own_of, asleep};
 ghost use Rattle.css_companion.specs.Printed.{line_of};
 ghost use Rattle.css_companion_c.specs.Codes as answers;
 ghost use Rattle.css_companion_c.specs.Codes.{DONE, CLOSED, NO_ROOM, ChangesNothing, GoesOn, Answers, aged};
-ghost use Rattle.css_companion_c.specs.Handles.{behind, Of, Between, AnswerAlike};
-ghost use Rattle.css_companion_c.specs.Leads.{lead_code, HoldsTheLead};
-ghost use Rattle.css_companion_c.specs.Promises.{Adds, IsFresh, HoldsTheWall, HoldsThePosition, GoesWith};
+ghost use Rattle.css_companion_c.specs.Handles.{behind, Of, Between, AnswerAlike, KeepsTheRest};
+ghost use Rattle.css_companion_c.specs.Leads.{lead_code, HoldsTheLead, IsTheLead};
+ghost use Rattle.css_companion_c.specs.Promises.{Adds, IsFresh, HoldsTheWall, HoldsThePosition, GoesWith, IsTheWall};
 ghost use Rattle.css_companion_c.specs.Snapshots.{IsSnapshotOf, IsCodeOf, HasRanges, at_floor, copied};
 ghost use Rattle.css_companion_c.specs.Texts.{Holds};
 ghost use Rattle.css_companion_c.specs.Until.{any_kept, IsNarrowUntil, IsWideAt};
@@ -26,6 +26,7 @@ mod content;
 mod exchange;
 mod handle;
 mod held;
+pub mod laws;
 mod lead;
 mod making;
 mod parts;
@@ -101,6 +102,8 @@ pub extern "C" fn css_companion_slept(alloc: Global, handle: &mut Handle) -> u32
     ensures code { result ≡ answers.if_open (behind handle.old) (λ _. DONE) }
     ensures same { result ≢ DONE → behind handle.new ≡ behind handle.old }
     ensures age { handle.new.age ≡ aged handle.old.age result }
+    ensures told { result ≡ DONE → Between (behind handle.old) (behind handle.new) (λ old new.
+        new ≡ record old { client = asleep old.client }) }
     ensures stands { result ≡ DONE → Between (behind handle.old) (behind handle.new)
         (Adds (λ _. Unit {0}) (λ history. Slept ∷ history)) }
 {
@@ -127,6 +130,7 @@ pub extern "C" fn css_companion_ask(
     ensures code { result ≡ answers.tested (behind handle.old) reading DONE }
     ensures same { result ≢ DONE → behind handle.new ≡ behind handle.old }
     ensures age { handle.new.age ≡ handle.old.age }
+    ensures keeps { result ≡ DONE → Between (behind handle.old) (behind handle.new) KeepsTheRest }
     ensures alike { result ≡ DONE → Between (behind handle.old) (behind handle.new) AnswerAlike }
     ensures request { result ≡ DONE → request.new ≡ encoded (request_at reading) }
     ensures stands { result ≡ DONE → Between (behind handle.old) (behind handle.new) (λ old new. (peer : ℕ)
@@ -157,6 +161,7 @@ pub extern "C" fn css_companion_land(
         (answers.landing_code (landing_of (own_of old) history reading bytes.now)) result) }
     ensures same { ChangesNothing result → behind handle.new ≡ behind handle.old }
     ensures age { handle.new.age ≡ aged handle.old.age result }
+    ensures keeps { GoesOn result → Between (behind handle.old) (behind handle.new) KeepsTheRest }
     ensures stands { GoesOn result → Between (behind handle.old) (behind handle.new) (λ old new. (peer : ℕ)
         → Adds (λ _. Unit {0}) (λ history. Clock why.Land reading ∷ Took peer bytes.now ∷ history) old new) }
 {
@@ -187,6 +192,7 @@ pub extern "C" fn css_companion_wall(
         (wall_span (own_of companion) reading (accepted_answers (own_of companion) history))) }
     ensures same { behind handle.new ≡ behind handle.old }
     ensures age { handle.new.age ≡ handle.old.age }
+    ensures span { result ≡ DONE → Of (behind handle.old) (IsTheWall reading span.new) }
     ensures truth { result ≡ DONE → Of (behind handle.old) (HoldsTheWall reading span.new) }
 {
     match handle.take(alloc) {
@@ -247,6 +253,7 @@ pub extern "C" fn css_companion_lead(
         (timing_after companion.setup.selector history) tick) }
     ensures same { behind handle.new ≡ behind handle.old }
     ensures age { handle.new.age ≡ handle.old.age }
+    ensures lead { result ≡ DONE → Of (behind handle.old) (IsTheLead reading tick lead.new) }
     ensures truth { result ≡ DONE → Of (behind handle.old) (HoldsTheLead reading tick lead.new) }
 {
     match handle.take(alloc) {
@@ -305,7 +312,7 @@ pub extern "C" fn css_companion_report(
     ensures age { handle.new.age ≡ handle.old.age }
     ensures text { result ≡ DONE → Of (behind handle.old) (λ companion. (history : History)
         → StandsFor companion history → Holds (line_of number
-        (report_after (own_of companion) companion.setup.selector history reading) None) used.new out.new) }
+        (report_after (own_of companion) companion.setup.selector history reading) None) used.new out.old out.new) }
     ensures needs { result ≡ NO_ROOM → Of (behind handle.old) (λ companion. (history : History)
         → StandsFor companion history → used.new ≡ length (line_of number
         (report_after (own_of companion) companion.setup.selector history reading) None)) }

@@ -33,7 +33,7 @@ pub extern "C" fn css_companion_presentation(
     ensures code { Answers (window_code earliest.now latest.now) (room_code
         (presentation_text (window (earliest_of earliest.now) (latest_of latest.now))) (length out.old)) result }
     ensures text { result ≡ DONE → Holds
-        (presentation_text (window (earliest_of earliest.now) (latest_of latest.now))) used.new out.new }
+        (presentation_text (window (earliest_of earliest.now) (latest_of latest.now))) used.new out.old out.new }
     ensures needs { result ≡ NO_ROOM → used.new ≡ length
         (presentation_text (window (earliest_of earliest.now) (latest_of latest.now))) }
 {
@@ -45,7 +45,7 @@ pub extern "C" fn css_companion_presentation(
 pub extern "C" fn css_companion_words(code: u32, out: &mut [u8], used: &mut usize) -> u32
     ensures kept { result ≢ DONE → out.new ≡ out.old }
     ensures code { result ≡ room_code (word_of code) (length out.old) }
-    ensures text { result ≡ DONE → Holds (word_of code) used.new out.new }
+    ensures text { result ≡ DONE → Holds (word_of code) used.new out.old out.new }
     ensures needs { result ≡ NO_ROOM → used.new ≡ length (word_of code) }
 {
     put(word(code).as_bytes(), out, used)

@@ -75,7 +75,7 @@ pub(crate) fn put_presentation(
     ensures code { Answers (window_code earliest.now latest.now) (room_code
         (presentation_text (window (earliest_of earliest.now) (latest_of latest.now))) (length out.old)) result }
     ensures text { result ≡ DONE → Holds
-        (presentation_text (window (earliest_of earliest.now) (latest_of latest.now))) used.new out.new }
+        (presentation_text (window (earliest_of earliest.now) (latest_of latest.now))) used.new out.old out.new }
     ensures needs { result ≡ NO_ROOM → used.new ≡ length
         (presentation_text (window (earliest_of earliest.now) (latest_of latest.now))) }
 {

@@ -10,7 +10,7 @@ ghost use Rattle.css_companion.specs.declared.report.Report.TheVariants as repor
 ghost use Rattle.css_companion_c.specs.Codes.{at_reading, span_code, report_code, cause_code, room_code, Answers};
 ghost use Rattle.css_companion_c.specs.Codes.{is_narrow, DONE, NO_ROOM};
 ghost use Rattle.css_companion_c.specs.Texts.{Holds};
-ghost use Rattle.css_companion_c.specs.Promises.{HoldsTheWall, HoldsThePosition, GoesWith};
+ghost use Rattle.css_companion_c.specs.Promises.{HoldsTheWall, HoldsThePosition, GoesWith, IsTheWall};
 
 use crate::codes;
 use crate::texts::put;
@@ -91,6 +91,7 @@ pub(crate) fn wall(companion: &Companion, reading: u64, out: &mut Ends) -> u32
     ensures code { at_reading companion.now reading DONE ≡ DONE → (history : History)
         → StandsFor companion.now history → result ≡ span_code
         (wall_span (own_of companion.now) reading (accepted_answers (own_of companion.now) history)) }
+    ensures span { result ≡ DONE → IsTheWall reading out.new companion.now }
     ensures truth { result ≡ DONE → HoldsTheWall reading out.new companion.now }
 {
     let code = early(companion, reading);
@@ -203,7 +204,8 @@ pub(crate) fn report(
         (report_after (own_of companion.now) companion.now.setup.selector history reading) None)
         (length out.old)) result }
     ensures text { result ≡ DONE → (history : History) → StandsFor companion.now history → Holds (line_of number
-        (report_after (own_of companion.now) companion.now.setup.selector history reading) None) used.new out.new }
+        (report_after (own_of companion.now) companion.now.setup.selector history reading) None)
+        used.new out.old out.new }
     ensures needs { result ≡ NO_ROOM → (history : History) → StandsFor companion.now history
         → used.new ≡ length (line_of number
         (report_after (own_of companion.now) companion.now.setup.selector history reading) None) }

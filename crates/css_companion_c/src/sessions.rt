@@ -74,7 +74,7 @@ pub(crate) fn control(companion: &mut Companion, text: &[u8]) -> u32
 pub(crate) fn setup(companion: &mut Companion, out: &mut [u8], used: &mut usize) -> u32
     ensures kept { result ≢ DONE → out.new ≡ out.old }
     ensures code { Answers DONE (room_code (setup_text companion.old.setup) (length out.old)) result }
-    ensures text { result ≡ DONE → Holds (setup_text companion.old.setup) used.new out.new }
+    ensures text { result ≡ DONE → Holds (setup_text companion.old.setup) used.new out.old out.new }
     ensures needs { result ≡ NO_ROOM → used.new ≡ length (setup_text companion.old.setup) }
     ensures stands { (history : History) (peer : ℕ) → StandsFor companion.old history
         → result ≡ DONE → StandsFor companion.new (Dialled kind.Ts peer ∷ history) }

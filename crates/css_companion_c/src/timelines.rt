@@ -25,7 +25,7 @@ fn put_timeline(
 ) -> u32
     ensures kept { result ≢ DONE → (out.new ≡ out.old) × (rate.new ≡ rate.old) }
     ensures code { result ≡ timeline_code (Some timeline.now) (length out.old) }
-    ensures told { result ≡ DONE → TellsTimeline timeline.now used.new out.new rate.new }
+    ensures told { result ≡ DONE → TellsTimeline timeline.now used.new out.old out.new rate.new }
     ensures needs { result ≡ NO_ROOM → used.new ≡ length timeline.now.selector }
 {
     let code = put(timeline.selector.bytes(), out, used);
@@ -49,7 +49,7 @@ pub(crate) fn timeline(
     ensures kept { result ≢ DONE → (out.new ≡ out.old) × (rate.new ≡ rate.old) }
     ensures code { result ≡ timeline_code (listed number companion.now.state.timelines) (length out.old) }
     ensures told { result ≡ DONE → IfSome (listed number companion.now.state.timelines) (λ timeline.
-        TellsTimeline timeline used.new out.new rate.new) }
+        TellsTimeline timeline used.new out.old out.new rate.new) }
     ensures needs { result ≡ NO_ROOM → IfSome (listed number companion.now.state.timelines) (λ timeline.
         used.new ≡ length timeline.selector) }
 {

@@ -1,5 +1,5 @@
 //! Calls of the two sessions: their texts, and what the television told.
-ghost use Rattle.std.specs.Prelude.{◌≡◌, ◌≢◌, ℕ, Some, IfSome, ◌∷◌, length, take};
+ghost use Rattle.std.specs.Prelude.{◌≡◌, ◌≢◌, ℕ, Some, IfSome, ◌∷◌, length};
 ghost use Rattle.css_model.specs.declared.Kind.TheVariants as kind;
 ghost use Rattle.css_model.specs.History.{Entry, Heard, Dialled};
 ghost use Rattle.css_cii.specs.States.{full_change};
@@ -59,7 +59,7 @@ pub extern "C" fn css_companion_cii_field(
     ensures same { behind handle.new ≡ behind handle.old }
     ensures age { handle.new.age ≡ handle.old.age }
     ensures text { result ≡ DONE → Of (behind handle.old) (λ companion.
-        property_of property companion.state ≡ Some (take used.new out.new)) }
+        IfSome (property_of property companion.state) (λ text. Holds text used.new out.old out.new)) }
     ensures needs { result ≡ NO_ROOM → Of (behind handle.old) (λ companion.
         IfSome (property_of property companion.state) (λ text. used.new ≡ length text)) }
 {
@@ -87,7 +87,7 @@ pub extern "C" fn css_companion_cii_state(
     ensures same { behind handle.new ≡ behind handle.old }
     ensures age { handle.new.age ≡ handle.old.age }
     ensures text { result ≡ DONE → Of (behind handle.old) (λ companion.
-        Holds (change_text (full_change companion.state)) used.new out.new) }
+        Holds (change_text (full_change companion.state)) used.new out.old out.new) }
     ensures needs { result ≡ NO_ROOM → Of (behind handle.old) (λ companion.
         used.new ≡ length (change_text (full_change companion.state))) }
 {
@@ -118,7 +118,7 @@ pub extern "C" fn css_companion_timeline(
     ensures age { handle.new.age ≡ handle.old.age }
     ensures told { result ≡ DONE → Of (behind handle.old) (λ companion.
         IfSome (listed number companion.state.timelines) (λ timeline.
-        TellsTimeline timeline used.new out.new rate.new)) }
+        TellsTimeline timeline used.new out.old out.new rate.new)) }
     ensures needs { result ≡ NO_ROOM → Of (behind handle.old) (λ companion.
         IfSome (listed number companion.state.timelines) (λ timeline. used.new ≡ length timeline.selector)) }
 {
@@ -149,7 +149,7 @@ pub extern "C" fn css_companion_setup(
     ensures told { result ≡ DONE → Between (behind handle.old) (behind handle.new) (λ old new.
         new ≡ steps.stepped old event.TsOpened) }
     ensures text { result ≡ DONE → Of (behind handle.old) (λ companion.
-        Holds (setup_text companion.setup) used.new out.new) }
+        Holds (setup_text companion.setup) used.new out.old out.new) }
     ensures needs { result ≡ NO_ROOM → Of (behind handle.old) (λ companion.
         used.new ≡ length (setup_text companion.setup)) }
     ensures stands { result ≡ DONE → Between (behind handle.old) (behind handle.new) (λ old new. (peer : ℕ)
@@ -194,6 +194,8 @@ pub extern "C" fn css_companion_ts_closed(alloc: Global, handle: &mut Handle) ->
     ensures code { result ≡ answers.if_open (behind handle.old) (λ _. DONE) }
     ensures same { result ≢ DONE → behind handle.new ≡ behind handle.old }
     ensures age { handle.new.age ≡ aged handle.old.age result }
+    ensures told { result ≡ DONE → Between (behind handle.old) (behind handle.new) (λ old new.
+        new ≡ steps.stepped old event.TsClosed) }
     ensures stands { result ≡ DONE → Between (behind handle.old) (behind handle.new) (λ old new. (entry : Entry)
         → Adds (steps.IsEntryOf event.TsClosed entry) (λ history. entry ∷ history) old new) }
 {

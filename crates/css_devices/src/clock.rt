@@ -1,23 +1,14 @@
 //! The system's two clocks, in whole nanoseconds.
-ghost use Rattle.std.specs.Prelude.{◌<◌, ◌+◌, ◌↔◌, IfSome, IsTrue};
+ghost use Rattle.std.specs.Prelude.{◌≡◌, ◌<◌, ◌+◌, ◌↔◌, Some, IfSome, nat_lt};
+ghost use Rattle.css_devices.specs.Clocks as clocks;
 ghost use Rattle.css_model.specs.declared.TheConstants.{LIMIT};
 
+use crate::shown::Clocks;
 use css_model::LIMIT;
 use std::time::{Clock, Duration};
 
 /// How much further the system's clock must go than the monotone one where the machine slept.
 const SLEEP_NANOS: u64 = 2_000_000_000;
-
-/// The two clocks at one moment.
-#[derive(Clone, Copy)]
-pub(crate) struct Clocks {
-    /// `CLOCK_MONOTONIC`: it never goes back, and stands still while the machine sleeps. The readings are from it.
-    pub(crate) monotone: u64,
-    /// `CLOCK_REALTIME`, where it shows a time of 1970 to 2554: it goes on in a sleep. A person, or a time service, may
-    /// set it.
-    pub(crate) system: Option<u64>,
-    ghost monotone_below: { monotone < LIMIT },
-}
 
 /// A time in nanoseconds, where it is below 2^32 seconds.
 fn nanos_of(time: Duration) -> Option<u64>
@@ -58,14 +49,16 @@ pub(crate) fn read_clocks(clock: &impl Clock) -> Option<Clocks> {
 
 /// Whether the system's clock rose by over two seconds more than the monotone one.
 fn ran_ahead(before: Clocks, now: Clocks, system_before: u64, system_now: u64) -> bool
-    ensures { IsTrue result ↔ (now.monotone + system_before + 2000000000 < system_now + before.monotone) }
+    ensures { result ≡ nat_lt (now.monotone + system_before + 2000000000) (system_now + before.monotone) }
 {
     let expected = u128::from(now.monotone) + u128::from(system_before) + u128::from(SLEEP_NANOS);
     expected < u128::from(system_now) + u128::from(before.monotone)
 }
 
 /// Whether the machine slept between these, as far as the system's clock tells.
-pub(crate) fn has_slept(before: Clocks, now: Clocks) -> bool {
+pub(crate) fn has_slept(before: Clocks, now: Clocks) -> bool
+    ensures { result ≡ clocks.has_slept (Some before) now }
+{
     match (before.system, now.system) {
         (Some(system_before), Some(system_now)) => ran_ahead(
             before,

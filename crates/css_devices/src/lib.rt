@@ -7,6 +7,7 @@ mod child;
 mod clock;
 pub mod faults;
 mod standard;
+mod shown;
 mod streams;
 mod tally;
 mod window;

@@ -2,8 +2,9 @@
 //! block is waited for. A source keeps the last lines that went through it where that is asked, of which nothing is
 //! promised.
 
-ghost use Rattle.std.specs.Prelude.{◌≡◌, None};
+ghost use Rattle.std.specs.Prelude.{◌≡◌};
 ghost use Rattle.std.specs.Io.{ReadsAtMost, WritesAtMost};
+ghost use Rattle.std.specs.Io.KnownBytes.{ReadConsumes, WriteAppends};
 
 use crate::faults::fault_of;
 use crate::window::Window;
@@ -38,7 +39,8 @@ fn goes_on<C: Clock>(clock: &C, error: &io::Error) -> bool {
 
 /// Reads, and again where a signal cut the read short, or nothing has come yet.
 fn read_through<R: Read, C: Clock>(inner: &mut R, clock: &C, into: &mut [u8]) -> io::Result<usize>
-    ensures { ReadsAtMost result into.new }
+    ensures bound { ReadsAtMost result into.new }
+    ensures bytes { ReadConsumes (R.remaining inner.old) (R.remaining inner.new) result into.new }
 {
     for _ in 0..u64::MAX {
         match inner.read(into) {
@@ -104,7 +106,7 @@ impl<'a, R: Read, C: Clock> StdSource<'a, R, C> {
 }
 
 impl<'a, R: Read, C: Clock> Source for StdSource<'a, R, C> {
-    ghost left = { λ _. None };
+    ghost left = { λ source. R.remaining source.inner };
 
     ghost faults = { λ source. source.faults };
 
@@ -132,7 +134,8 @@ pub struct StdSink<'a, W, C> {
 
 /// Writes, and again where a signal cut the write short, or nothing is taken yet.
 fn write_through<W: Write, C: Clock>(inner: &mut W, clock: &C, bytes: &[u8]) -> io::Result<usize>
-    ensures { WritesAtMost result bytes.now }
+    ensures bound { WritesAtMost result bytes.now }
+    ensures bytes { WriteAppends (W.contents inner.old) (W.contents inner.new) result bytes.now }
 {
     for _ in 0..u64::MAX {
         match inner.write(bytes) {
@@ -157,7 +160,7 @@ impl<'a, W: Write, C: Clock> StdSink<'a, W, C> {
 }
 
 impl<'a, W: Write, C: Clock> Sink for StdSink<'a, W, C> {
-    ghost holds = { λ _. None };
+    ghost holds = { λ sink. W.contents sink.inner };
 
     ghost faults = { λ sink. sink.faults };
 

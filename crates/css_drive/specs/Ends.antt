@@ -1,7 +1,7 @@
 -- How a run may end, and what is counted then.
 use Rattle.std.specs.Prelude.{◌≡◌, ◌≤◌, ℕ, Option, Some, None, ⊤}
 use Rattle.css_model.specs.History.{History}
-use Rattle.css_outside.specs.Faults.{HasRisen}
+use Rattle.css_outside.specs.Faults.{HasRisen, HasRisenOnce}
 use Rattle.css_drive.specs.Proper.{Due, Ends}
 use Rattle.css_drive.specs.declared.driven.Driven.{Driven}
 use Rattle.css_drive.specs.declared.driven.Driven.TheVariants as driven
@@ -30,14 +30,14 @@ abbrev pub IsNetFault : Driven → Type 0
 IsNetFault (driven.NetFault failure) = ⊤
 IsNetFault _ = ⊥
 
--- The count of faults of calls other than dials has risen at `NetFault`, and is as before at every other end.
+-- The count of faults of calls other than dials has risen by one at `NetFault`, and is as before at every other end.
 abbrev pub CountsNetFault : ℕ → ℕ → Driven → Type 0
-CountsNetFault before now (driven.NetFault failure) = HasRisen before now
+CountsNetFault before now (driven.NetFault failure) = HasRisenOnce before now
 CountsNetFault before now _ = now ≡ before
 
--- The sink's count of faults has risen at `WriteFault`, and is as before at every other end.
+-- The sink's count of faults has risen by one at `WriteFault`, and is as before at every other end.
 abbrev pub CountsWriteFault : ℕ → ℕ → Driven → Type 0
-CountsWriteFault before now driven.WriteFault = HasRisen before now
+CountsWriteFault before now driven.WriteFault = HasRisenOnce before now
 CountsWriteFault before now _ = now ≡ before
 
 -- Where no dial succeeded, the count of failed dials has risen. It never falls.

@@ -2,7 +2,7 @@
 use Rattle.std.specs.Prelude.{◌≡◌, ◌⊎◌, ℕ, ◌≤◌, List, [], ◌++◌, length, Option, Some, None, Result, MatchResult}
 use Rattle.std.specs.Io.KnownBytes.{Appends, Consumes, IsAtEnd}
 use Rattle.css_outside.specs.Bytes.{IsPrefix}
-use Rattle.css_outside.specs.Faults.{HasRisen}
+use Rattle.css_outside.specs.Faults.{HasRisenOnce}
 use Rattle.css_lines.specs.declared.reader.Refusal.{Refusal}
 use Rattle.css_lines.specs.declared.ending.Stop.{Stop}
 use Rattle.css_lines.specs.declared.ending.Stop.TheVariants.{BadLine, ReadFault, WriteFault, Memory}
@@ -88,12 +88,12 @@ pub record RanUntil {Cause : Type 0} (meaning : Meaning Cause) (bytes : List ℕ
 
 -- the source's count has risen where a read failed, and else is as it was
 abbrev pub SourceCounts : {Cause : Type 0} → ℕ → ℕ → Stop Cause → Type 0
-SourceCounts before now ReadFault = HasRisen before now
+SourceCounts before now ReadFault = HasRisenOnce before now
 SourceCounts before now _ = now ≡ before
 
 -- the sink's count has risen where a write failed, and else is as it was
 abbrev pub SinkCounts : {Cause : Type 0} → ℕ → ℕ → Stop Cause → Type 0
-SinkCounts before now WriteFault = HasRisen before now
+SinkCounts before now WriteFault = HasRisenOnce before now
 SinkCounts before now _ = now ≡ before
 
 -- the source's count, by how a run ended

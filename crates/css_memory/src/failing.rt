@@ -1,5 +1,5 @@
 ghost use Rattle.std.specs.Prelude.{◌≡◌, ◌↔◌, IfOk, IsTrue, Contains, if◌then◌else◌};
-ghost use Rattle.css_outside.specs.Faults.{HasRisen};
+ghost use Rattle.css_outside.specs.Faults.{HasRisenOnce};
 ghost use Rattle.css_memory.specs.Failing.{next_count};
 
 use css_num::Memory;
@@ -40,7 +40,7 @@ impl FailingCalls {
           calls = next_count self.old.calls;
           faults = if result then next_count self.old.faults else self.old.faults;
         } }
-        ensures risen { IsTrue result → HasRisen self.old.faults self.new.faults }
+        ensures risen { IsTrue result → HasRisenOnce self.old.faults self.new.faults }
     {
         self.calls = self.calls.saturating_add(1);
         let fails = self.fails.contains(&self.calls);

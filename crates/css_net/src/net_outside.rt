@@ -69,7 +69,7 @@ impl<R: NetRuntime> NetOutside<R> {
 impl<R: NetRuntime> Outside for NetOutside<R> {
     ghost told = { λ _. None };
 
-    ghost counts = { λ outside. outside.tally };
+    ghost counts = { λ outside. outside.tally.counts };
 
     fn listen(&mut self, host: &Text, port: u16) -> Result<(), OutFault> {
         let listens = self.sockets.listen(&self.rt, host, port);

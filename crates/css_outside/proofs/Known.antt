@@ -80,11 +80,11 @@ on_err_from (Err e) p = p
 pub read_faults_never_fall : {T : Type 0} (before now : ℕ) (result : Result T plain.Failed)
     → CountsReadFaults before now result → before ≤ now
 read_faults_never_fall before now (Ok answer) counted = omega (arith, counted)
-read_faults_never_fall before now (Err failed) counted = counted.kept
+read_faults_never_fall before now (Err failed) counted = counted.risen.kept
 
 -- nor does that of a sink's
 pub write_faults_never_fall : {T : Type 0} (before now : ℕ) (result : Result T OutFault)
     → CountsCall before now result → before ≤ now
 write_faults_never_fall before now (Ok answer) counted = omega (arith, counted)
-write_faults_never_fall before now (Err (fault.Failed failure)) counted = counted.kept
+write_faults_never_fall before now (Err (fault.Failed failure)) counted = counted.risen.kept
 write_faults_never_fall before now (Err fault.Memory) counted = omega (arith, counted)

@@ -8,7 +8,7 @@ use Rattle.css_model.specs.declared.Kind.{Kind}
 use Rattle.css_model.specs.declared.Kind.TheVariants as kind
 use Rattle.css_model.specs.History.{Address, History, Slept, Clock, Dialling, Dialled, NotDialled, Accepted}
 use Rattle.css_model.specs.History.{NoneCame, Took, TookNone, Quiet, Heard, Closed, Wrote, Gone}
-use Rattle.css_outside.specs.Faults.{CountsCall}
+use Rattle.css_outside.specs.Faults.{CountsCall, CountsDialFault}
 use Rattle.css_outside.specs.declared.calls.Clocked.{Clocked}
 use Rattle.css_outside.specs.declared.calls.Heard.{Heard as SessionHeard}
 use Rattle.css_outside.specs.declared.calls.Heard.TheVariants as heard
@@ -90,7 +90,8 @@ pub record CountsClock (before now : Counts) (result : Result Clocked OutFault) 
 
 -- a dial: each peer has a number that no peer had before
 pub record CountsDial (before now : Counts) (result : Result ℕ OutFault) : Type 0 where
-  pub faults : CountsCall before.dial_faults now.dial_faults result
+  pub faults : MatchResult result (λ _. now.dial_faults ≡ before.dial_faults)
+      (CountsDialFault before.dial_faults now.dial_faults)
   pub same : now ≡ record before { dial_faults = now.dial_faults; peers = now.peers }
   pub peer : MatchResult result (λ peer. (before.peers < peer) × (now.peers ≡ peer)) (λ _. now.peers ≡ before.peers)
 

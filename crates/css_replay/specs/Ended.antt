@@ -3,7 +3,7 @@ use Rattle.std.specs.Prelude.{ℕ, ◌≡◌, ◌⊎◌, ◌<◌, ◌≤◌, ◌
 use Rattle.std.specs.Prelude.{Option, Some, None, Ok, Err}
 use Rattle.std.specs.Fmt.{signed_decimal}
 use Rattle.std.specs.Io.KnownBytes.{Appends}
-use Rattle.css_outside.specs.Faults.{HasRisen}
+use Rattle.css_outside.specs.Faults.{HasRisen, HasRisenOnce}
 use Rattle.css_lines.specs.declared.reader.Refusal.{Refusal}
 use Rattle.css_lines.specs.declared.reader.Refusal.TheVariants.{Refused}
 use Rattle.css_lines.specs.declared.reader.Refusal.TheVariants as refusals
@@ -115,17 +115,17 @@ replay_refused line (Refused (causes.Broken earlier excess)) = Broken line earli
 -- ---- counts of faults
 -- the source's count of faults has risen where a read failed, and else is as it was
 abbrev pub CountsReads : ℕ → ℕ → Status → Type 0
-CountsReads before now ReadFault = HasRisen before now
+CountsReads before now ReadFault = HasRisenOnce before now
 CountsReads before now _ = now ≡ before
 
 -- the sink's count of faults has risen where a write failed, and else is as it was
 abbrev pub CountsWrites : ℕ → ℕ → Status → Type 0
-CountsWrites before now WriteFault = HasRisen before now
+CountsWrites before now WriteFault = HasRisenOnce before now
 CountsWrites before now _ = now ≡ before
 
 -- The outside's count of faults of calls other than dials has risen where a call failed, and else is as it was.
 abbrev pub CountsCalls : ℕ → ℕ → Status → Type 0
-CountsCalls before now (NetFault failure) = HasRisen before now
+CountsCalls before now (NetFault failure) = HasRisenOnce before now
 CountsCalls before now _ = now ≡ before
 
 -- Where no dial succeeded, the count of failed dials has risen. It never falls.
@@ -137,7 +137,7 @@ CountsDials before now _ = before ≤ now
 -- It never falls.
 abbrev pub CountsSpawns : ℕ → ℕ → Status → Type 0
 CountsSpawns before now Done = now ≡ before
-CountsSpawns before now (ChildFault (Err failure)) = HasRisen before now
+CountsSpawns before now (ChildFault (Err failure)) = HasRisenOnce before now
 CountsSpawns before now (ChildFault (Ok ended)) = now ≡ before
 CountsSpawns before now _ = before ≤ now
 

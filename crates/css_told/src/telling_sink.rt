@@ -1,4 +1,6 @@
-ghost use Rattle.std.specs.Prelude.{◌≡◌, Some, []};
+ghost use Rattle.std.specs.Prelude.{◌≡◌, ◌<◌, ◌≤◌, ◌++◌, List, ℕ, Some, [], length, IfOk};
+ghost use Rattle.std.specs.Io.KnownBytes.{WriteAppends};
+ghost use Rattle.css_outside.specs.Faults.{CountsCall};
 
 use crate::given::Given;
 use css_outside::{OutFault, Sink};
@@ -28,7 +30,15 @@ impl<K: Sink> Sink for TellingSink<K> {
 
     ghost faults = { λ sink. K.faults sink.inner };
 
-    fn write(&mut self, bytes: &[u8]) -> Result<usize, OutFault> {
+    fn write(&mut self, bytes: &[u8]) -> Result<usize, OutFault>
+        ensures bound { IfOk result (λ count. count ≤ length bytes.now) }
+        ensures some { IfOk result (λ count. 0 < length bytes.now → 0 < count) }
+        ensures bytes { WriteAppends (Some self.old.given.bytes) (Some self.new.given.bytes) result bytes.now }
+        ensures counted { CountsCall (K.faults self.old.inner) (K.faults self.new.inner) result }
+
+        ensures inner { (before : List ℕ) → K.holds self.old.inner ≡ Some (before ++ self.old.given.bytes)
+            → K.holds self.new.inner ≡ Some (before ++ self.new.given.bytes) }
+    {
         let count = self.inner.write(bytes)?;
         self.given.add(bytes, count);
         Ok(count)

@@ -1,16 +1,18 @@
 -- How single visits come to a watch.
-use Rattle.std.proofs.Common.{◌≡◌, ℕ, ap, sym, ◌∙◌, subst, refl, inl, inr, List, [], ◌++◌, append-nil}
+use Rattle.std.proofs.Common.{◌≡◌, ℕ, ap, sym, ◌∙◌, subst, refl, inl, inr, List, [], ◌∷◌, ◌++◌, append-nil}
+use Rattle.std.proofs.Common.{append_assoc}
 use Rattle.std.proofs.Common.{Option, Some, None, Bool, true, false, cond, Result, Ok, Err}
 use Rattle.std.proofs.KnownBytes.{Appends-trans}
-use Rattle.std.specs.Prelude.{◌≢◌, ◌⊎◌, OnOk}
+use Rattle.std.specs.Prelude.{◌≢◌, ◌⊎◌, MatchResult}
 use Rattle.std.specs.Io.KnownBytes.{Appends}
-use Rattle.css_model.specs.History.{History}
+use Rattle.css_model.specs.History.{History, HungUp}
 use Rattle.css_outside.specs.Bytes.{AppendsPrefix}
 use Rattle.css_outside.specs.Faults.{CountsCall, CountsOutFault}
 use Rattle.css_outside.specs.declared.fault.OutFault.{OutFault}
 use Rattle.css_outside.specs.declared.fault.OutFault.TheVariants as fault
 use Rattle.css_drive.specs.Proper.{Empty}
-use Rattle.css_outside.specs.Outsides.{with_entries}
+use Rattle.css_outside.specs.Outsides.{Counts, CountsPlain, Tells, with_entries}
+use Rattle.css_drive.specs.CompanionStanding.{hung}
 use Rattle.css_drive.proofs.CompanionSteps.{told_more}
 use Rattle.css_drive.specs.Ends as drive
 use Rattle.css_drive.specs.Notes.{noted}
@@ -23,7 +25,7 @@ use Rattle.css_watch.specs.Progress.{fresh, told_number, with_visit}
 use Rattle.css_watch.specs.Telling.{Told, told_of, text_of}
 use Rattle.css_drive.specs.Visits.{Visit, why}
 use Rattle.css_watch.specs.Visits.{CountsNetFault, CountsWriteFault, Hangs, HoldsAll, IsFault, IsVisit, end_of}
-use Rattle.css_watch.specs.Visits.{end_text}
+use Rattle.css_watch.specs.Visits.{EndsAtCause, end_text, Fails, IsFaultAfter, IsOlderPart, hang_ups_after}
 use Rattle.css_watch.specs.Visits.{by_reports, fault_of, unwritten, hang_ups, last_end, told_in, visit_text}
 use Rattle.css_watch.specs.declared.ending.Watched.{Watched}
 use Rattle.css_watch.specs.declared.ending.Watched.TheVariants as watched
@@ -120,6 +122,57 @@ visit_as plan begun history hung ended v = record {
   at_cause = v.at_cause;
 }
 
+-- none of the hang-ups was made
+pub none_hung : (wanted : History) → IsOlderPart [] wanted
+none_hung wanted = record { newer = wanted; rest = append-nil wanted }
+
+-- a fault ends the watch, after what an observer saw
+fails : (told : Told) (visit : Visit) (parting : Option Parting) (progress : Progress) (result : Watched)
+    → told.parting ≡ parting → progress ≡ told.progress → IsFaultAfter visit.ended parting result
+    → IsOlderPart visit.hung (hang_ups_after visit.ended parting progress) → Fails told visit result
+fails told visit parting progress result p q fault hangs =
+    let F : Option Parting → Type 0 = λ x. IsFaultAfter visit.ended x result in
+    let H : Option Parting → Type 0 = λ x. IsOlderPart visit.hung (hang_ups_after visit.ended x progress) in
+    let G : Progress → Type 0 = λ x. IsOlderPart visit.hung (hang_ups_after visit.ended told.parting x) in
+    record { fault = subst F (sym p) fault; hangs = subst G q (subst H (sym p) hangs) }
+
+-- where another visit is to follow any fault may come, and all open sessions are to be hung up
+due_after : (ended : Driven) (parting : Option Parting) (progress : Progress) (result : Watched) (words : List ℕ)
+    → why ended parting ≡ Some words → IsFault result → EndsAtCause parting ended
+    → IsFaultAfter ended parting result × (hang_ups progress ≡ hang_ups_after ended parting progress)
+due_after driven.WriteFault (Some cause) progress result words e f c = (f, refl)
+due_after driven.WriteFault None progress result words e f c = absurd (cc)
+due_after (driven.BadCii text reason) parting progress result words e f c = (f, refl)
+due_after (driven.Moved property old new) parting progress result words e f c = (f, refl)
+due_after (driven.BadUrl property) parting progress result words e f c = (f, refl)
+due_after driven.Memory parting progress result words e f c = absurd (cc)
+due_after (driven.NetFault failure) parting progress result words e f c = absurd (cc)
+due_after driven.Done None progress result words e f c = absurd (cc)
+due_after driven.Done (Some cause) progress result words e f c = absurd c
+due_after (driven.BadLine line cause) parting progress result words e f c = absurd (cc)
+due_after (driven.Spent turns) parting progress result words e f c = absurd (cc)
+due_after (driven.Unreachable turns) parting progress result words e f c = absurd (cc)
+
+-- so it is of a visit of which the observer told all
+fails_before : (told : Told) (visit : Visit) (parting : Option Parting) (progress : Progress)
+    (held holds : Option (List ℕ)) (words : List ℕ) (result : Watched) → IsWhole told parting progress held holds
+    → why visit.ended parting ≡ Some words → IsFault result → EndsAtCause told.parting visit.ended
+    → IsOlderPart visit.hung (hang_ups progress) → Fails told visit result
+fails_before told visit parting progress held holds words result whole e fault at_cause hangs =
+    let P : History → Type 0 = λ x. IsOlderPart visit.hung x in
+    let C : Option Parting → Type 0 = λ x. EndsAtCause x visit.ended in
+    let due = due_after visit.ended parting progress result words e fault (subst C whole.parting_so at_cause) in
+    fails told visit parting progress result whole.parting_so whole.progress_so due.0 (subst P due.1 hangs)
+
+-- the run itself failed to write
+unwritten_fails : (told : Told) (history : History)
+    → Fails told (record { history = history; hung = []; ended = driven.WriteFault }) watched.WriteFault
+unwritten_fails told history = record { fault = by told.parting; hangs = none_hung _ }
+  where
+    by : (o : Option Parting) → IsFaultAfter driven.WriteFault o watched.WriteFault
+    by None = refl
+    by (Some cause) = tt
+
 -- the text of a visit that another one follows
 text_so : (told : Told) (parting : Option Parting) (ended : Driven) (progress : Progress) (words : List ℕ)
     → progress ≡ told.progress → told.parting ≡ parting → why ended parting ≡ Some words
@@ -177,7 +230,8 @@ parts_make plan begun start mid now history ended parting progress words (visite
       visit = visit_of history p.entries ended;
       is_last = record {
         visited = visit_as plan begun history p.entries ended r.visited;
-        ends = inl p.fault;
+        ends = inl (fails_before told (visit_of history p.entries ended) parting progress start.holds mid.holds words
+            result whole e p.fault r.visited.at_cause p.hangs);
       };
       told = told_more start.told mid.told now.told p.entries history r.told p.told;
       wrote = subst P (text_so told parting ended progress words whole.progress_so whole.parting_so e)
@@ -190,11 +244,18 @@ parts_make plan begun start mid now history ended parting progress words (visite
 -- ---- the last visit
 -- memory ran out where the visit's end was to be told
 pub lacks_memory : (plan : Plan) (begun : Begun) (start mid : Stage) (history : History) (ended : Driven)
-    (parting : Option Parting) (progress : Progress) → IsRun plan begun start mid history ended parting progress
+    (parting : Option Parting) (progress : Progress) (words : List ℕ)
+    → IsRun plan begun start mid history ended parting progress → why ended parting ≡ Some words
     → mid.faults ≡ start.faults → mid.writes ≡ start.writes → Makes plan begun start mid (visited.Over watched.Memory)
-lacks_memory plan begun start mid history ended parting progress r f w = record {
+lacks_memory plan begun start mid history ended parting progress words r e f w = record {
   visit = visit_of history [] ended;
-  is_last = record { visited = r.visited; ends = inl tt };
+  is_last = record {
+    visited = r.visited;
+    ends = inl (fails_before (told_in plan begun (visit_of history [] ended)) (visit_of history [] ended) parting
+        progress start.holds mid.holds words watched.Memory
+        (saw_followed _ parting ended progress start.holds mid.holds words r.saw e) e tt r.visited.at_cause
+        (none_hung _));
+  };
   told = r.told;
   wrote = prefix_more start.holds mid.holds _ _ (saw_prefix _ parting ended progress start.holds mid.holds r.saw);
   faults = f;
@@ -274,8 +335,9 @@ ends_whole : (plan : Plan) (begun : Begun) (start mid now : Stage) (history entr
     → now.faults ≡ start.faults → now.writes ≡ start.writes
     → why ended parting ≡ None → result ≡ last_end ended progress.begun
     → end_of ended parting progress.begun ≡ last_end ended progress.begun
+    → entries ≡ hang_ups_after ended parting progress
     → Makes plan begun start now (visited.Over result)
-ends_whole plan begun start mid now history entries ended parting progress result v told more whole f w e is last =
+ends_whole plan begun start mid now history entries ended parting progress result v told more whole f w e is last due =
     let told-so = told_of plan (fresh (with_visit begun)) (noted plan.run history) in
     let P : Watched → Type 0 = λ x. HoldsAll start.holds now.holds (visit_text plan begun (visit_of history entries
     ended)) x in
@@ -287,11 +349,13 @@ ends_whole plan begun start mid now history entries ended parting progress resul
       visit = visit_of history entries ended;
       is_last = record {
         visited = visit_as plan begun history entries ended v;
-        ends = inr (
-          none,
-          is ∙ sym last ∙ ap (λ x. end_of ended parting x.begun) whole.progress_so
-              ∙ ap (λ x. end_of ended x told-so.progress.begun) (sym whole.parting_so),
-        );
+        ends = inr (record {
+          no_cause = none;
+          ends = is ∙ sym last ∙ ap (λ x. end_of ended parting x.begun) whole.progress_so
+              ∙ ap (λ x. end_of ended x told-so.progress.begun) (sym whole.parting_so);
+          hangs = due ∙ ap (hang_ups_after ended parting) whole.progress_so
+              ∙ ap (λ x. hang_ups_after ended x told-so.progress) (sym whole.parting_so);
+        });
       };
       told = told_more start.told mid.told now.told entries history told more;
       wrote = subst P (sym is) (subst Q (sym (unsaid plan begun history entries ended none))
@@ -303,13 +367,14 @@ ends_whole plan begun start mid now history entries ended parting progress resul
 -- a device failed, or memory ran out
 ends_fault : (plan : Plan) (begun : Begun) (start mid now : Stage) (history entries : History) (ended : Driven)
     (result : Watched) → IsVisit plan begun (visit_of history [] ended)
-    → mid.told ≡ with_entries history start.told → now.told ≡ with_entries entries mid.told → IsFault result
+    → mid.told ≡ with_entries history start.told → now.told ≡ with_entries entries mid.told
+    → Fails (told_in plan begun (visit_of history entries ended)) (visit_of history entries ended) result
     → HoldsAll start.holds now.holds (visit_text plan begun (visit_of history entries ended)) result
     → CountsNetFault start.faults now.faults result → CountsWriteFault start.writes now.writes result
     → Makes plan begun start now (visited.Over result)
-ends_fault plan begun start mid now history entries ended result v told more fault wrote f w = record {
+ends_fault plan begun start mid now history entries ended result v told more fails-so wrote f w = record {
   visit = visit_of history entries ended;
-  is_last = record { visited = visit_as plan begun history entries ended v; ends = inl fault };
+  is_last = record { visited = visit_as plan begun history entries ended v; ends = inl fails-so };
   told = told_more start.told mid.told now.told entries history told more;
   wrote = wrote;
   faults = f;
@@ -329,27 +394,28 @@ ended_make : (plan : Plan) (begun : Begun) (start mid now : Stage) (history : Hi
     → why ended None ≡ None → Makes plan begun start now (visited.Over (end_of ended None progress.begun))
 ended_make plan begun start mid now history driven.WriteFault progress v told same s f w e =
     ends_fault plan begun start mid now history [] driven.WriteFault watched.WriteFault v told
-    (no_entries mid.told now.told same) tt (prefix_more start.holds now.holds _ _ s) f w
+    (no_entries mid.told now.told same) (unwritten_fails _ history) (prefix_more start.holds now.holds _ _ s) f w
 ended_make plan begun start mid now history driven.Memory progress v told same s f w e =
     ends_fault plan begun start mid now history [] driven.Memory watched.Memory v told
-    (no_entries mid.told now.told same) tt (prefix_more start.holds now.holds _ _ s) f w
+    (no_entries mid.told now.told same) (record { fault = refl; hangs = none_hung _ })
+    (prefix_more start.holds now.holds _ _ s) f w
 ended_make plan begun start mid now history (driven.NetFault failure) progress v told same s f w e =
     let P : List ℕ → Type 0 = λ x. Appends start.holds now.holds x in
     ends_fault plan begun start mid now history [] (driven.NetFault failure) (watched.NetFault failure) v told
-    (no_entries mid.told now.told same) tt (subst P (sym (unsaid plan begun history [] (driven.NetFault failure) refl))
-    s.wrote) f w
+    (no_entries mid.told now.told same) (record { fault = refl; hangs = none_hung _ })
+    (subst P (sym (unsaid plan begun history [] (driven.NetFault failure) refl)) s.wrote) f w
 ended_make plan begun start mid now history driven.Done progress v told same s f w e =
     ends_whole plan begun start mid now history [] driven.Done None progress _ v told
-    (no_entries mid.told now.told same) s f w refl refl refl
+    (no_entries mid.told now.told same) s f w refl refl refl refl
 ended_make plan begun start mid now history (driven.BadLine line cause) progress v told same s f w e =
     ends_whole plan begun start mid now history [] (driven.BadLine line cause) None progress _ v told
-    (no_entries mid.told now.told same) s f w refl refl refl
+    (no_entries mid.told now.told same) s f w refl refl refl refl
 ended_make plan begun start mid now history (driven.Spent turns) progress v told same s f w e =
     ends_whole plan begun start mid now history [] (driven.Spent turns) None progress _ v told
-    (no_entries mid.told now.told same) s f w refl refl refl
+    (no_entries mid.told now.told same) s f w refl refl refl refl
 ended_make plan begun start mid now history (driven.Unreachable turns) progress v told same s f w e =
     ends_whole plan begun start mid now history [] (driven.Unreachable turns) None progress _ v told
-    (no_entries mid.told now.told same) s f w refl refl refl
+    (no_entries mid.told now.told same) s f w refl refl refl refl
 ended_make plan begun start mid now history (driven.BadCii text reason) progress v told same s f w e = absurd (cc)
 ended_make plan begun start mid now history (driven.Moved property old new) progress v told same s f w e = absurd (cc)
 ended_make plan begun start mid now history (driven.BadUrl property) progress v told same s f w e = absurd (cc)
@@ -361,27 +427,32 @@ parted_fault : (plan : Plan) (begun : Begun) (start mid now : Stage) (history en
     → IsWhole (told_of plan (fresh (with_visit begun)) (noted plan.run history)) (Some why-so) progress start.holds
     now.holds
     → why driven.WriteFault (Some why-so) ≡ None → IsFault result → IsQuiet result
-    → CountsNetFault start.faults now.faults result → now.writes ≡ start.writes
-    → Makes plan begun start now (visited.Over result)
+    → IsOlderPart entries (hang_ups progress) → CountsNetFault start.faults now.faults result
+    → now.writes ≡ start.writes → Makes plan begun start now (visited.Over result)
 parted_fault plan begun start mid now history entries why-so progress (watched.NetFault failure) v told more whole e
-    fault quiet f w =
+    fault quiet h f w =
     let told-so = told_of plan (fresh (with_visit begun)) (noted plan.run history) in
     let P : List ℕ → Type 0 = λ x. Appends start.holds now.holds x in
-    ends_fault plan begun start mid now history entries driven.WriteFault (watched.NetFault failure) v told more tt
+    ends_fault plan begun start mid now history entries driven.WriteFault (watched.NetFault failure) v told more
+    (fails told-so (visit_of history entries driven.WriteFault) (Some why-so) progress (watched.NetFault failure)
+    whole.parting_so whole.progress_so tt h)
     (subst P (sym (unsaid plan begun history entries driven.WriteFault (ap (why driven.WriteFault) whole.parting_so
     ∙ e))) whole.wrote) f w
-parted_fault plan begun start mid now history entries why-so progress watched.Memory v told more whole e fault quiet f
-    w =
-    ends_fault plan begun start mid now history entries driven.WriteFault watched.Memory v told more tt
+parted_fault plan begun start mid now history entries why-so progress watched.Memory v told more whole e fault quiet h
+    f w =
+    let told-so = told_of plan (fresh (with_visit begun)) (noted plan.run history) in
+    ends_fault plan begun start mid now history entries driven.WriteFault watched.Memory v told more
+    (fails told-so (visit_of history entries driven.WriteFault) (Some why-so) progress watched.Memory whole.parting_so
+    whole.progress_so tt h)
     (prefix_more start.holds now.holds _ _ (whole_prefix start.holds now.holds _ whole.wrote)) f w
 parted_fault plan begun start mid now history entries why-so progress watched.WriteFault v told more whole e fault
-    quiet f w = absurd quiet
-parted_fault plan begun start mid now history entries why-so progress watched.Done v told more whole e fault quiet f w =
-    absurd fault
+    quiet h f w = absurd quiet
+parted_fault plan begun start mid now history entries why-so progress watched.Done v told more whole e fault quiet h f
+    w = absurd fault
 parted_fault plan begun start mid now history entries why-so progress (watched.Unreachable turns) v told more whole e
-    fault quiet f w = absurd fault
+    fault quiet h f w = absurd fault
 parted_fault plan begun start mid now history entries why-so progress (watched.NoInterval reports) v told more whole e
-    fault quiet f w = absurd fault
+    fault quiet h f w = absurd fault
 
 parted_make : (plan : Plan) (begun : Begun) (start mid now : Stage) (history : History) (why-so : Parting)
     (progress : Progress) (result : Watched) → IsVisit plan begun (visit_of history [] driven.WriteFault)
@@ -389,25 +460,26 @@ parted_make : (plan : Plan) (begun : Begun) (start mid now : Stage) (history : H
     → IsWhole (told_of plan (fresh (with_visit begun)) (noted plan.run history)) (Some why-so) progress start.holds
     now.holds
     → mid.faults ≡ start.faults → now.writes ≡ start.writes → why driven.WriteFault (Some why-so) ≡ None
-    → LeavesAll (end_of driven.WriteFault (Some why-so) progress.begun) mid.told now.told mid.faults now.faults result
-    → Makes plan begun start now (visited.Over result)
+    → LeavesAll progress (end_of driven.WriteFault (Some why-so) progress.begun) mid.told now.told mid.faults now.faults
+    result → Makes plan begun start now (visited.Over result)
 parted_make plan begun start mid now history why-so progress result v told whole f w e leaves = by leaves.ends
   where
-    by : (IsFault result × CountsNetFault mid.faults now.faults result × IsQuiet result)
-        ⊎ ((result ≡ end_of driven.WriteFault (Some why-so) progress.begun) × (now.faults ≡ mid.faults))
-        → Makes plan begun start now (visited.Over result)
+    by : (IsFault result × CountsNetFault mid.faults now.faults result × IsQuiet result
+        × IsOlderPart leaves.entries (hang_ups progress))
+        ⊎ ((result ≡ end_of driven.WriteFault (Some why-so) progress.begun) × (now.faults ≡ mid.faults)
+        × (leaves.entries ≡ hang_ups progress)) → Makes plan begun start now (visited.Over result)
     by (inl x) =
         parted_fault plan begun start mid now history leaves.entries why-so progress result v told leaves.told whole e
-        x.0 x.2 (net_from _ _ _ result f x.1) w
+        x.0 x.2 x.3 (net_from _ _ _ result f x.1) w
     by (inr x) =
         ends_whole plan begun start mid now history leaves.entries driven.WriteFault (Some why-so) progress result v
-        told leaves.told whole (x.1 ∙ f) w e x.0 refl
+        told leaves.told whole (x.1 ∙ f) w e x.0 refl x.2
 
 pub leaves_make : (plan : Plan) (begun : Begun) (start mid now : Stage) (history : History) (ended : Driven)
     (parting : Option Parting) (progress : Progress) (end result : Watched)
     → IsRun plan begun start mid history ended parting progress → why ended parting ≡ None
     → end ≡ end_of ended parting progress.begun
-    → Leaves parting end mid.told now.told mid.faults now.faults result → now.holds ≡ mid.holds
+    → Leaves parting progress end mid.told now.told mid.faults now.faults result → now.holds ≡ mid.holds
     → now.writes ≡ mid.writes → Makes plan begun start now (visited.Over result)
 leaves_make plan begun start mid now history ended None progress end result r e is leaves holds writes =
     let P : Watched → Type 0 = λ x. Makes plan begun start now (visited.Over x) in
@@ -425,12 +497,40 @@ leaves_make plan begun start mid now history ended (Some why-so) progress end re
     let E : Driven → Type 0 = λ x. why x (Some why-so) ≡ None in
     let H : Option (List ℕ) → Type 0 = λ x. IsWhole (told_of plan (fresh (with_visit begun)) (noted plan.run history))
     (Some why-so) progress start.holds x in
-    let L : Watched → Type 0 = λ x. LeavesAll x mid.told now.told mid.faults now.faults result in
+    let L : Watched → Type 0 = λ x. LeavesAll progress x mid.told now.told mid.faults now.faults result in
     parted_make plan begun start mid now history why-so progress result (subst V so r.visited) r.told
     (subst H (sym holds) r.saw.1) (subst N so r.faults) (writes ∙ subst W so r.writes) (subst E so e)
     (subst L (is ∙ ap (λ x. end_of x (Some why-so) progress.begun) so) leaves)
 
 -- ---- hang-ups
+-- that of one session
+pub one_hung : (before now : Option History) (was is : Counts) (session : Option ℕ) (peer : ℕ)
+    (result : Result (Unit {0}) OutFault) → session ≡ Some peer
+    → Tells before now result (λ _. HungUp peer ∷ []) → CountsPlain was is result
+    → Hangs before now was.faults is.faults (hung session) result
+one_hung before now was is session peer result e told counted =
+    let P : Option ℕ → Type 0 = λ x. Hangs before now was.faults is.faults (hung x) result in
+    subst P (sym e) (by result told counted.faults)
+  where
+    by : (result : Result (Unit {0}) OutFault) → Tells before now result (λ _. HungUp peer ∷ [])
+        → CountsCall was.faults is.faults result → Hangs before now was.faults is.faults (HungUp peer ∷ []) result
+    by (Ok done) t c = record { entries = HungUp peer ∷ []; told = t; all = refl; faults = c }
+    by (Err cause) t c =
+        record { entries = []; told = no_entries before now t; all = none_hung (HungUp peer ∷ []); faults = c }
+
+-- the first one failed
+pub hangs_first : (before now : Option History) (was is : ℕ) (first second : History) (cause : OutFault)
+    → Hangs before now was is first (Err cause) → Hangs before now was is (second ++ first) (Err cause)
+hangs_first before now was is first second cause h = record {
+  entries = h.entries;
+  told = h.told;
+  all = record {
+    newer = second ++ h.all.newer;
+    rest = append_assoc second h.all.newer h.entries ∙ ap (λ x. second ++ x) h.all.rest;
+  };
+  faults = h.faults;
+}
+
 -- one after another
 pub hangs_on : (a b c : Option History) (f m n : ℕ) (first second : History) (result : Result (Unit {0}) OutFault)
     → {done : Unit {0}} → Hangs a b f m first (Ok done) → Hangs b c m n second result
@@ -442,10 +542,16 @@ hangs_on a b c f m n first second result p q = record {
   faults = counts result p.faults q.faults;
 }
   where
-    all : (result : Result (Unit {0}) OutFault) → OnOk result (q.entries ≡ second)
-        → OnOk result (q.entries ++ p.entries ≡ second ++ first)
+    all : (result : Result (Unit {0}) OutFault)
+        → MatchResult result (λ _. q.entries ≡ second) (λ _. IsOlderPart q.entries second)
+        → MatchResult result (λ _. q.entries ++ p.entries ≡ second ++ first)
+        (λ _. IsOlderPart (q.entries ++ p.entries) (second ++ first))
     all (Ok done) e = ap (λ x. x ++ p.entries) e ∙ ap (λ x. second ++ x) p.all
-    all (Err cause) e = tt
+    all (Err cause) e = record {
+      newer = e.newer;
+      rest = sym (append_assoc e.newer q.entries p.entries) ∙ ap (λ x. x ++ p.entries) e.rest
+          ∙ ap (λ x. second ++ x) p.all;
+    }
 
     counts : (result : Result (Unit {0}) OutFault) → m ≡ f → CountsCall m n result → CountsCall f n result
     counts result e c = let P : ℕ → Type 0 = λ x. CountsCall x n result in subst P e c
@@ -469,6 +575,7 @@ unwritten_breaks progress words start now cause {bytes} result is e w told same 
       fault = tt;
       entries = [];
       told = no_entries start.told now.told told;
+      hangs = none_hung _;
       faults = same;
       wrote = wrote;
       writes = counted;
@@ -477,6 +584,7 @@ unwritten_breaks progress words start now cause {bytes} result is e w told same 
       fault = tt;
       entries = [];
       told = no_entries start.told now.told told;
+      hangs = none_hung _;
       faults = same;
       wrote = wrote;
       writes = counted;
@@ -517,6 +625,7 @@ unhung_breaks progress words start now cause {bytes} result is e w h =
       fault = tt;
       entries = h.entries;
       told = h.told;
+      hangs = h.all;
       faults = counted;
       wrote = wrote;
       writes = w.1;
@@ -525,29 +634,34 @@ unhung_breaks progress words start now cause {bytes} result is e w h =
       fault = tt;
       entries = h.entries;
       told = h.told;
+      hangs = h.all;
       faults = counted;
       wrote = whole_prefix start.holds now.holds _ wrote;
       writes = w.1;
     }
 
 -- a hang-up failed where the watch was to end
-pub leaves_fault : (end : Watched) (before now : Option History) (was is : ℕ) (wanted : History) (cause : OutFault)
-    (result : Watched) → result ≡ fault_of cause → Hangs before now was is wanted (Err cause)
-    → LeavesAll end before now was is result
-leaves_fault end before now was is wanted cause result so h =
-    let P : Watched → Type 0 = λ x. LeavesAll end before now was is x in
+pub leaves_fault : (progress : Progress) (end : Watched) (before now : Option History) (was is : ℕ) (cause : OutFault)
+    (result : Watched) → result ≡ fault_of cause → Hangs before now was is (hang_ups progress) (Err cause)
+    → LeavesAll progress end before now was is result
+leaves_fault progress end before now was is cause result so h =
+    let P : Watched → Type 0 = λ x. LeavesAll progress end before now was is x in
     subst P (sym so) (record { entries = h.entries; told = h.told; ends = inl (by cause h.faults) })
   where
     by : (cause : OutFault) → CountsOutFault was is cause
         → IsFault (fault_of cause) × CountsNetFault was is (fault_of cause) × IsQuiet (fault_of cause)
-    by (fault.Failed failure) counted = (tt, counted, tt)
-    by fault.Memory counted = (tt, counted, tt)
+        × IsOlderPart h.entries (hang_ups progress)
+    by (fault.Failed failure) counted = (tt, counted, tt, h.all)
+    by fault.Memory counted = (tt, counted, tt, h.all)
 
 -- nothing was begun, for want of memory
 pub unbegun : (plan : Plan) (begun : Begun) (start : Stage) → Makes plan begun start start (visited.Over watched.Memory)
 unbegun plan begun start = record {
   visit = visit_of [] [] driven.Memory;
-  is_last = record { visited = record { proper = Empty; ends = tt; promised = tt; at_cause = tt }; ends = inl tt };
+  is_last = record {
+    visited = record { proper = Empty; ends = tt; promised = tt; at_cause = tt };
+    ends = inl (record { fault = refl; hangs = none_hung _ });
+  };
   told = no_entries start.told start.told refl;
   wrote = no_prefix start.holds _;
   faults = refl;
@@ -563,6 +677,6 @@ lacks_words plan begun start mid history ended parting progress r some = by (why
     by : (o : Option (List ℕ)) → why ended parting ≡ o → Makes plan begun start mid (visited.Over watched.Memory)
     by None e = absurd (some e)
     by (Some words) e =
-        lacks_memory plan begun start mid history ended parting progress r
+        lacks_memory plan begun start mid history ended parting progress words r e
         (quiet_net _ parting ended progress start.holds mid.holds words _ _ r.saw e r.faults)
         (quiet_writes parting ended words _ _ e r.writes)

@@ -3,7 +3,7 @@ use Rattle.std.specs.Prelude.{◌≡◌, ◌⊎◌, ◌≤◌, ℕ, List, [], �
 use Rattle.std.specs.Io.KnownBytes.{Appends}
 use Rattle.css_model.specs.History.{History}
 use Rattle.css_outside.specs.Bytes.{AppendsPrefix}
-use Rattle.css_outside.specs.Faults.{HasRisen}
+use Rattle.css_outside.specs.Faults.{HasRisenOnce}
 use Rattle.css_outside.specs.Outsides.{Counts, with_entries}
 use Rattle.css_drive.specs.Ends as drive
 use Rattle.css_drive.specs.Notes.{noted}
@@ -14,6 +14,7 @@ use Rattle.css_watch.specs.Progress.{fresh, told_number, with_visit}
 use Rattle.css_watch.specs.Telling.{Told, told_of, text_of}
 use Rattle.css_drive.specs.Visits.{AreFollowed, IsFollowed, Visit, begun_after, entries_of}
 use Rattle.css_watch.specs.Visits.{IsVisit, IsLast, IsFault, HoldsAll, told_in, visit_text, hang_ups, visits_of}
+use Rattle.css_watch.specs.Visits.{IsOlderPart}
 use Rattle.css_watch.specs.Visits.{CountsDialFaults, CountsNetFault, CountsWriteFault, written}
 use Rattle.css_watch.specs.declared.ending.Watched.{Watched}
 use Rattle.css_watch.specs.declared.ending.Watched.TheVariants as watched
@@ -52,7 +53,7 @@ Saw told None ended progress held holds = IsWhole told None progress held holds
 
 -- the sink's faults are counted where the observer couldn't write
 abbrev pub CountsWrites : Option Parting → Driven → ℕ → ℕ → Type 0
-CountsWrites None driven.WriteFault before now = HasRisen before now
+CountsWrites None driven.WriteFault before now = HasRisenOnce before now
 CountsWrites _ _ before now = now ≡ before
 
 -- the run of a visit since `start`
@@ -90,6 +91,7 @@ pub record BreaksOff (progress : Progress) (words : List ℕ) (start now : Stage
   pub fault : IsFault result
   pub entries : History
   pub told : now.told ≡ with_entries entries start.told
+  pub hangs : IsOlderPart entries (hang_ups progress)
   pub faults : CountsNetFault start.faults now.faults result
   pub wrote : HoldsAll start.holds now.holds (line_text (Ended (told_number progress.begun.visits) words)) result
   pub writes : CountsWriteFault start.writes now.writes result
@@ -99,15 +101,18 @@ Parts progress words start now (visited.Next next) = GoesOn progress words start
 Parts progress words start now (visited.Over result) = BreaksOff progress words start now result
 
 -- the open sessions were hung up, and the watch ends so, or by a fault
-pub record LeavesAll (end : Watched) (before now : Option History) (was is : ℕ) (result : Watched) : Type 0 where
+pub record LeavesAll (progress : Progress) (end : Watched) (before now : Option History) (was is : ℕ)
+    (result : Watched) : Type 0 where
   pub entries : History
   pub told : now ≡ with_entries entries before
-  pub ends : (IsFault result × CountsNetFault was is result × IsQuiet result) ⊎ ((result ≡ end) × (is ≡ was))
+  pub ends : (IsFault result × CountsNetFault was is result × IsQuiet result
+      × IsOlderPart entries (hang_ups progress))
+      ⊎ ((result ≡ end) × (is ≡ was) × (entries ≡ hang_ups progress))
 
 -- They are hung up where the observer ended the last visit. A run that ended by itself left nothing to be done.
-abbrev pub Leaves : Option Parting → Watched → Option History → Option History → ℕ → ℕ → Watched → Type 0
-Leaves None end before now was is result = (result ≡ end) × (now ≡ before) × (is ≡ was)
-Leaves (Some why) end before now was is result = LeavesAll end before now was is result
+abbrev pub Leaves : Option Parting → Progress → Watched → Option History → Option History → ℕ → ℕ → Watched → Type 0
+Leaves None progress end before now was is result = (result ≡ end) × (now ≡ before) × (is ≡ was)
+Leaves (Some why) progress end before now was is result = LeavesAll progress end before now was is result
 
 -- ---- a visit
 pub record Follows (plan : Plan) (begun : Begun) (start now : Stage) (next : Begun) : Type 0 where

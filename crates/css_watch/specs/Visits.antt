@@ -1,11 +1,11 @@
 -- The visits of a watch, and what it comes to.
-use Rattle.std.specs.Prelude.{◌≡◌, ◌≤◌, ◌⊎◌, ℕ, List, [], ◌∷◌, ◌++◌, length, Option, Some, None, Result, OnOk, codes}
-use Rattle.std.specs.Prelude.{decimal}
+use Rattle.std.specs.Prelude.{◌≡◌, ◌≤◌, ◌⊎◌, ℕ, List, [], ◌∷◌, ◌++◌, length, Option, Some, None, Result, codes}
+use Rattle.std.specs.Prelude.{decimal, MatchResult}
 use Rattle.std.specs.Prelude.{if◌then◌else◌, ⊤}
 use Rattle.std.specs.Io.KnownBytes.{Appends}
 use Rattle.css_model.specs.History.{History}
 use Rattle.css_outside.specs.Bytes.{AppendsPrefix}
-use Rattle.css_outside.specs.Faults.{HasRisen, CountsCall}
+use Rattle.css_outside.specs.Faults.{HasRisen, HasRisenOnce, CountsCall}
 use Rattle.css_outside.specs.Outsides.{with_entries}
 use Rattle.css_outside.specs.declared.fault.OutFault.{OutFault}
 use Rattle.css_outside.specs.declared.fault.OutFault.TheVariants as fault
@@ -58,12 +58,17 @@ end_of ended parting begun = last_end ended begun
 abbrev pub hang_ups : Progress → History
 hang_ups progress = hung progress.ts_open ++ hung progress.cii_open
 
--- Calls added these entries: all that were to be made, unless one failed.
+-- these entries are all of the wanted ones, or an older part of them
+pub record IsOlderPart (entries wanted : History) : Type 0 where
+  pub newer : History
+  pub rest : newer ++ entries ≡ wanted
+
+-- Calls added these entries: all that were to be made, or those before the one that failed.
 pub record Hangs (before now : Option History) (was is : ℕ) (wanted : History) (result : Result (Unit {0}) OutFault)
     : Type 0 where
   pub entries : History
   pub told : now ≡ with_entries entries before
-  pub all : OnOk result (entries ≡ wanted)
+  pub all : MatchResult result (λ _. entries ≡ wanted) (λ _. IsOlderPart entries wanted)
   pub faults : CountsCall was is result
 
 -- ---- visits
@@ -122,12 +127,41 @@ IsFault watched.WriteFault = ⊤
 IsFault watched.Memory = ⊤
 IsFault _ = ⊥
 
+-- the hang-ups that are due after a run that ended so: those of the open sessions, where its observer ended it or
+-- another visit is to follow
+abbrev pub hang_ups_after : Driven → Option Parting → Progress → History
+hang_ups_after driven.WriteFault (Some cause) progress = hang_ups progress
+hang_ups_after (driven.BadCii text reason) parting progress = hang_ups progress
+hang_ups_after (driven.Moved property old new) parting progress = hang_ups progress
+hang_ups_after (driven.BadUrl property) parting progress = hang_ups progress
+hang_ups_after _ parting progress = []
+
+-- a watch may end by this fault after a run that ended so: by the run's own, or by any where more was due after it
+abbrev pub IsFaultAfter : Driven → Option Parting → Watched → Type 0
+IsFaultAfter (driven.NetFault failure) parting result = result ≡ watched.NetFault failure
+IsFaultAfter driven.Memory parting result = result ≡ watched.Memory
+IsFaultAfter driven.WriteFault None result = result ≡ watched.WriteFault
+IsFaultAfter driven.WriteFault (Some cause) result = IsFault result
+IsFaultAfter (driven.BadCii text reason) parting result = IsFault result
+IsFaultAfter (driven.Moved property old new) parting result = IsFault result
+IsFaultAfter (driven.BadUrl property) parting result = IsFault result
+IsFaultAfter _ parting result = ⊥
+
+-- A device failed, or memory ran out. Of the hang-ups that were due after the run an older part was made.
+pub record Fails (told : Told) (visit : Visit) (result : Watched) : Type 0 where
+  pub fault : IsFaultAfter visit.ended told.parting result
+  pub hangs : IsOlderPart visit.hung (hang_ups_after visit.ended told.parting told.progress)
+
+-- No other visit follows, and all hang-ups that were due after the run were made.
+pub record IsOver (told : Told) (visit : Visit) (result : Watched) : Type 0 where
+  pub no_cause : why visit.ended told.parting ≡ None
+  pub ends : result ≡ end_of visit.ended told.parting told.progress.begun
+  pub hangs : visit.hung ≡ hang_ups_after visit.ended told.parting told.progress
+
 -- The last visit: no other follows it, unless a device failed or memory ran out.
 pub record IsLast (plan : Plan) (begun : Begun) (visit : Visit) (result : Watched) : Type 0 where
   pub visited : IsVisit plan begun visit
-  pub ends : IsFault result
-      ⊎ (why visit.ended (told_in plan begun visit).parting ≡ None)
-      × (result ≡ end_of visit.ended (told_in plan begun visit).parting (told_in plan begun visit).progress.begun)
+  pub ends : Fails (told_in plan begun visit) visit result ⊎ IsOver (told_in plan begun visit) visit result
 
 -- What a sink holds after a watch that ended so, which wrote this: all of it, but where a write failed or memory ran
 -- out.
@@ -159,11 +193,11 @@ pub record Watches (plan : Plan) (before now : Option History) (held holds : Opt
 
 -- ---- counts
 abbrev pub CountsNetFault : ℕ → ℕ → Watched → Type 0
-CountsNetFault before now (watched.NetFault failure) = HasRisen before now
+CountsNetFault before now (watched.NetFault failure) = HasRisenOnce before now
 CountsNetFault before now _ = now ≡ before
 
 abbrev pub CountsWriteFault : ℕ → ℕ → Watched → Type 0
-CountsWriteFault before now watched.WriteFault = HasRisen before now
+CountsWriteFault before now watched.WriteFault = HasRisenOnce before now
 CountsWriteFault before now _ = now ≡ before
 
 -- where no dial of CSS-CII succeeded, the count of failed dials has risen

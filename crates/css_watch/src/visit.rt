@@ -195,8 +195,8 @@ fn leave<O: Outside>(
     progress: &Progress,
     end: Watched,
 ) -> Watched
-    ensures leaves { Leaves parting.now end (O.told outside.old) (O.told outside.new) (O.counts outside.old).faults
-        (O.counts outside.new).faults result }
+    ensures leaves { Leaves parting.now progress.now end (O.told outside.old) (O.told outside.new)
+        (O.counts outside.old).faults (O.counts outside.new).faults result }
     ensures dials { (O.counts outside.new).dial_faults ≡ (O.counts outside.old).dial_faults }
     ensures by { (ended : Ended) → IsUnreachableBy ended end → IsUnreachableBy ended result }
 {

@@ -1,7 +1,7 @@
 use Rattle.std.proofs.Common.{ℤ, ◌≡◌, ◌∙◌, true, false, sym, subst}
 use Rattle.std.proofs.Math.Facts.{to_z-of_z}
 use Rattle.css_companion_c.specs.Leads.{HoldsTheLead, lead_at}
-use Rattle.css_companion_c.proofs.Leading.{told_code, holds}
+use Rattle.css_companion_c.proofs.Leading.{told_code, told_lead, holds}
 use Rattle.css_companion_c.proofs.lead.lead.Goals as goal
 
 pub returns-in-None-clause-code : goal.returns-in-None-clause-code
@@ -17,6 +17,14 @@ returns-in-Some-ends_of-clause-code c = λ _ history known.
     (subst (λ (t : ℤ). c.lead_at.result ≡ lead_at c.in-Ok.timing t c.in-Some.span) (to_z-of_z c.ranges.tick)
     c.lead_at.ensures.value)
     c.in-Some-ends_of.ensures.fits _ _ (c.in-Some.ensures.span history known)
+    (c.in-Ok.ensures.meaning history known)
+
+pub returns-in-Some-ends_of-clause-lead : goal.returns-in-Some-ends_of-clause-lead
+returns-in-Some-ends_of-clause-lead c = λ _ history known.
+    told_lead c.in-Some.span c.in-Ok.timing c.args.tick c.lead_at.result _
+    (subst (λ (t : ℤ). c.lead_at.result ≡ lead_at c.in-Ok.timing t c.in-Some.span) (to_z-of_z c.ranges.tick)
+    c.lead_at.ensures.value)
+    c.in-Some-ends_of.ensures.value _ _ (c.in-Some.ensures.span history known)
     (c.in-Ok.ensures.meaning history known)
 
 pub returns-in-Some-ends_of-clause-truth : goal.returns-in-Some-ends_of-clause-truth
