@@ -27,7 +27,7 @@ TABLES = {
     "record": ["css_app.Commands.ByRecord"],
     "relay": ["css_app.Commands.ByRelay", "css_drive_relay.SecondHop.SecondHopsAreTrue"],
     "migrate": ["css_app.Commands.ByMigrate", "css_laws.Writing.WrittenIsReplayedAlike"],
-    "watch": ["css_app.Commands.ByWatch"],
+    "watch": ["css_app.Commands.ByWatch", "css_watch_laws.Promises.CarriedLinesAreTrue"],
 }
 
 
