@@ -1,6 +1,6 @@
 -- The number of a line is read off what is said at it.
 use Rattle.std.proofs.Common.{◌≡◌, ℕ, suc, zero, ◌+◌, ◌/◌, ◌%◌, arith, ap, subst, ◌∙◌, refl, Bool, true, false}
-use Rattle.std.proofs.Common.{cond, ltb, List, [], ◌∷◌, ◌++◌}
+use Rattle.std.proofs.Common.{cond, inl, inr, ltb, List, [], ◌∷◌, ◌++◌}
 use Rattle.std.specs.Prelude.{ℤ, pos, negsuc, ◌==◌, All, Option, Some, None, codes, decimal}
 use Rattle.std.specs.Fmt.{signed_decimal, digits, digits_onto, digit_glyph}
 use Rattle.std.proofs.lemmas.Bool.{ne_eqb}
