@@ -9,7 +9,7 @@ use css_net::{
     ChildSpawner, NetOutside, PatientWriter, Seen, StdSink, StdSource, take_standard_numbers,
 };
 use css_outside::{Sink, write_all};
-use css_told::{TellingOutside, TellingSink};
+use css_told::{TellingOutside, TellingSink, TellingSpawner};
 use std::alloc::Global;
 use std::env::Env;
 use std::io::{Error, ErrorKind, IsTerminal, Read};
@@ -103,9 +103,10 @@ fn main(rt: HostRuntime) -> ExitCode {
     source.keep_lines();
     let mut sink = TellingSink::new(StdSink::new(io::writer(&rt), &rt));
     let mut outside = TellingOutside::new(NetOutside::new(rt.alloc(), &rt));
-    let mut spawner = ChildSpawner::new(rt.alloc(), &rt);
+    let mut spawner = TellingSpawner::new(ChildSpawner::new(rt.alloc(), &rt));
     let mut followers = cues_and_meter(rt.alloc());
-    let mut errors = StdSink::new(PatientWriter::new(rt.stderr().lock()), &rt);
+    let errors = PatientWriter::new(rt.stderr().lock());
+    let mut errors = TellingSink::new(StdSink::new(errors, &rt));
     let words = words(&rt);
     let status = match &words {
         Ok(words) => {

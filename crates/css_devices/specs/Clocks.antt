@@ -1,5 +1,5 @@
 -- What is told of the system's two clocks, and what is kept of them.
-use Rattle.std.specs.Prelude.{ℕ, ◌≡◌, ◌+◌, nat_lt, Bool, true, false, if◌then◌else◌, Option, Some, None}
+use Rattle.std.specs.Prelude.{ℕ, ◌≡◌, ◌+◌, nat_lt, Bool, false, if◌then◌else◌, Option, Some, None}
 use Rattle.css_outside.specs.Outsides.{Counts}
 use Rattle.css_outside.specs.declared.calls.Clocked.{Clocked}
 use Rattle.css_devices.specs.declared.shown.Clocks.{Clocks}

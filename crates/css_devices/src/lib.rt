@@ -6,8 +6,8 @@
 mod child;
 mod clock;
 pub mod faults;
-mod standard;
 mod shown;
+mod standard;
 mod streams;
 mod tally;
 mod window;

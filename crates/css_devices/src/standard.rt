@@ -1,6 +1,8 @@
 //! The standard streams' own descriptors: one that the program was started without, and a standard error that nobody
 //! reads.
 
+ghost use Rattle.std.specs.Prelude.{◌≡◌, take};
+
 use libc::net::{POLLOUT, poll};
 use libc::types::pollfd;
 use libc::{STDERR_FILENO, STDIN_FILENO};
@@ -62,12 +64,25 @@ impl<W: Write + AsRawFd> PatientWriter<W> {
     }
 }
 
+/// The front of some bytes, as much of them as is written at once.
+fn piece_of(bytes: &[u8]) -> &[u8]
+    ensures { result.now ≡ take 4096 bytes.now }
+{
+    if bytes.len() <= PIECE {
+        bytes
+    } else {
+        &bytes[..PIECE]
+    }
+}
+
 impl<W: Write + AsRawFd> Write for PatientWriter<W> {
+    ghost contents = { λ writer. W.contents writer.inner };
+
     fn write(&mut self, bytes: &[u8]) -> io::Result<usize> {
         if !takes_within(self.inner.as_raw_fd(), PATIENCE_MILLIS) {
             return Err(io::Error::from(ErrorKind::TimedOut));
         }
-        self.inner.write(bytes.get(..PIECE).unwrap_or(bytes))
+        self.inner.write(piece_of(bytes))
     }
 
     fn flush(&mut self) -> io::Result<()> {

@@ -1,4 +1,5 @@
-ghost use Rattle.std.specs.Prelude.{◌≡◌, ◌<◌, ◌≤◌, ◌+◌, true, Some, None, IfOk, OnOk, OnErr, IfSome, IfNone, Ok, Err, MatchResult, option_map};
+ghost use Rattle.std.specs.Prelude.{◌≡◌, ◌<◌, ◌≤◌, ◌+◌, true, Some, None, IfOk, OnOk, OnErr, IfSome, IfNone, Ok, Err};
+ghost use Rattle.std.specs.Prelude.{MatchResult, option_map};
 ghost use Rattle.css_outside.specs.Faults.{HasRisenOnce};
 ghost use Rattle.css_devices.specs.Clocks.{IsToldOf, clocked_of, reading_of};
 ghost use Rattle.css_outside.specs.Outsides.{CountsPlain, CountsClock, CountsDial, CountsOpening, IsSession};
@@ -31,7 +32,6 @@ pub struct Tally {
 impl Model for Tally {
     ghost use Rattle.std.specs.Prelude.{◌<◌};
     ghost use Rattle.css_model.specs.declared.TheConstants.{LIMIT};
-
     ghost use Rattle.css_devices.specs.Clocks.{Tallied};
 
     ghost Value = { Tallied };

@@ -1,8 +1,9 @@
-ghost use Rattle.std.specs.Prelude.{◌≡◌, ◌++◌, Some, [], ◌∷◌, IfOk};
-ghost use Rattle.css_model.specs.History.{History, Listening, Sent, HungUp};
+ghost use Rattle.std.specs.Prelude.{◌≡◌, Some, [], ◌∷◌, IfOk};
+ghost use Rattle.css_model.specs.History.{Listening, Sent, HungUp};
 ghost use Rattle.css_outside.specs.Outsides.{Tells, TellsDial, CountsPlain, CountsClock};
 ghost use Rattle.css_outside.specs.Outsides.{CountsDial, CountsOpening, FitsRoom};
 ghost use Rattle.css_outside.specs.Outsides as calls;
+ghost use Rattle.css_told.specs.Noted.{TellsAsNoted};
 
 use crate::diary::Diary;
 use crate::note::Note;
@@ -44,11 +45,11 @@ impl<O: Outside> Outside for TellingOutside<O> {
     ghost counts = { λ outside. O.counts outside.inner };
 
     fn listen(&mut self, host: &Text, port: u16) -> Result<(), OutFault>
-        ensures told { Tells (Some self.old.diary.history) (Some self.new.diary.history) result (λ _. Listening host.now port ∷ []) }
+        ensures told { Tells (Some self.old.diary.history) (Some self.new.diary.history)
+            result (λ _. Listening host.now port ∷ []) }
         ensures counted { CountsPlain (O.counts self.old.inner) (O.counts self.new.inner) result }
-
-        ensures inner { (before : History) → O.told self.old.inner ≡ Some (self.old.diary.history ++ before)
-            → O.told self.new.inner ≡ Some (self.new.diary.history ++ before) }
+        ensures inner { TellsAsNoted (O.told self.old.inner) (O.told self.new.inner)
+            self.old.diary.history self.new.diary.history }
     {
         self.inner.listen(host, port)?;
         self.diary.note(&Note::Listens(host, port));
@@ -56,11 +57,11 @@ impl<O: Outside> Outside for TellingOutside<O> {
     }
 
     fn now(&mut self, why: Why) -> Result<Clocked, OutFault>
-        ensures told { Tells (Some self.old.diary.history) (Some self.new.diary.history) result (calls.clock_entries why) }
+        ensures told { Tells (Some self.old.diary.history) (Some self.new.diary.history)
+            result (calls.clock_entries why) }
         ensures counted { CountsClock (O.counts self.old.inner) (O.counts self.new.inner) result }
-
-        ensures inner { (before : History) → O.told self.old.inner ≡ Some (self.old.diary.history ++ before)
-            → O.told self.new.inner ≡ Some (self.new.diary.history ++ before) }
+        ensures inner { TellsAsNoted (O.told self.old.inner) (O.told self.new.inner)
+            self.old.diary.history self.new.diary.history }
     {
         let clocked = self.inner.now(why)?;
         self.diary.note(&Note::Reads(why, clocked));
@@ -70,9 +71,8 @@ impl<O: Outside> Outside for TellingOutside<O> {
     fn dial(&mut self, kind: Kind, to: &Address) -> Result<u32, OutFault>
         ensures told { TellsDial (Some self.old.diary.history) (Some self.new.diary.history) kind to.now result }
         ensures counted { CountsDial (O.counts self.old.inner) (O.counts self.new.inner) result }
-
-        ensures inner { (before : History) → O.told self.old.inner ≡ Some (self.old.diary.history ++ before)
-            → O.told self.new.inner ≡ Some (self.new.diary.history ++ before) }
+        ensures inner { TellsAsNoted (O.told self.old.inner) (O.told self.new.inner)
+            self.old.diary.history self.new.diary.history }
     {
         let dialled = self.inner.dial(kind, to);
         match dialled {
@@ -86,9 +86,8 @@ impl<O: Outside> Outside for TellingOutside<O> {
     fn accept(&mut self) -> Result<Option<(u32, Kind)>, OutFault>
         ensures told { Tells (Some self.old.diary.history) (Some self.new.diary.history) result calls.opening_entries }
         ensures counted { CountsOpening (O.counts self.old.inner) (O.counts self.new.inner) result }
-
-        ensures inner { (before : History) → O.told self.old.inner ≡ Some (self.old.diary.history ++ before)
-            → O.told self.new.inner ≡ Some (self.new.diary.history ++ before) }
+        ensures inner { TellsAsNoted (O.told self.old.inner) (O.told self.new.inner)
+            self.old.diary.history self.new.diary.history }
     {
         let came = self.inner.accept()?;
         self.diary.note(&Note::Opens(came));
@@ -96,11 +95,11 @@ impl<O: Outside> Outside for TellingOutside<O> {
     }
 
     fn send_datagram(&mut self, peer: u32, bytes: &[u8; 32]) -> Result<(), OutFault>
-        ensures told { Tells (Some self.old.diary.history) (Some self.new.diary.history) result (λ _. Sent peer bytes.now ∷ []) }
+        ensures told { Tells (Some self.old.diary.history) (Some self.new.diary.history)
+            result (λ _. Sent peer bytes.now ∷ []) }
         ensures counted { CountsPlain (O.counts self.old.inner) (O.counts self.new.inner) result }
-
-        ensures inner { (before : History) → O.told self.old.inner ≡ Some (self.old.diary.history ++ before)
-            → O.told self.new.inner ≡ Some (self.new.diary.history ++ before) }
+        ensures inner { TellsAsNoted (O.told self.old.inner) (O.told self.new.inner)
+            self.old.diary.history self.new.diary.history }
     {
         self.inner.send_datagram(peer, bytes)?;
         self.diary.note(&Note::Sends(peer, bytes));
@@ -108,12 +107,12 @@ impl<O: Outside> Outside for TellingOutside<O> {
     }
 
     fn take_datagram(&mut self, into: &mut [u8; 64]) -> Result<Option<(u32, usize)>, OutFault>
-        ensures told { Tells (Some self.old.diary.history) (Some self.new.diary.history) result (calls.datagram_entries into.new) }
+        ensures told { Tells (Some self.old.diary.history) (Some self.new.diary.history)
+            result (calls.datagram_entries into.new) }
         ensures room { IfOk result FitsRoom }
         ensures counted { CountsPlain (O.counts self.old.inner) (O.counts self.new.inner) result }
-
-        ensures inner { (before : History) → O.told self.old.inner ≡ Some (self.old.diary.history ++ before)
-            → O.told self.new.inner ≡ Some (self.new.diary.history ++ before) }
+        ensures inner { TellsAsNoted (O.told self.old.inner) (O.told self.new.inner)
+            self.old.diary.history self.new.diary.history }
     {
         let came = self.inner.take_datagram(into)?;
         self.diary.note(&Note::Takes(into, came));
@@ -121,11 +120,11 @@ impl<O: Outside> Outside for TellingOutside<O> {
     }
 
     fn take_text(&mut self, peer: u32) -> Result<Heard, OutFault>
-        ensures told { Tells (Some self.old.diary.history) (Some self.new.diary.history) result (calls.heard_entries peer) }
+        ensures told { Tells (Some self.old.diary.history) (Some self.new.diary.history)
+            result (calls.heard_entries peer) }
         ensures counted { CountsPlain (O.counts self.old.inner) (O.counts self.new.inner) result }
-
-        ensures inner { (before : History) → O.told self.old.inner ≡ Some (self.old.diary.history ++ before)
-            → O.told self.new.inner ≡ Some (self.new.diary.history ++ before) }
+        ensures inner { TellsAsNoted (O.told self.old.inner) (O.told self.new.inner)
+            self.old.diary.history self.new.diary.history }
     {
         let heard = self.inner.take_text(peer)?;
         self.diary.note(&Note::Hears(peer, &heard));
@@ -133,11 +132,11 @@ impl<O: Outside> Outside for TellingOutside<O> {
     }
 
     fn send_text(&mut self, peer: u32, text: &[u8]) -> Result<Wrote, OutFault>
-        ensures told { Tells (Some self.old.diary.history) (Some self.new.diary.history) result (calls.wrote_entries peer text.now) }
+        ensures told { Tells (Some self.old.diary.history) (Some self.new.diary.history)
+            result (calls.wrote_entries peer text.now) }
         ensures counted { CountsPlain (O.counts self.old.inner) (O.counts self.new.inner) result }
-
-        ensures inner { (before : History) → O.told self.old.inner ≡ Some (self.old.diary.history ++ before)
-            → O.told self.new.inner ≡ Some (self.new.diary.history ++ before) }
+        ensures inner { TellsAsNoted (O.told self.old.inner) (O.told self.new.inner)
+            self.old.diary.history self.new.diary.history }
     {
         let wrote = self.inner.send_text(peer, text)?;
         self.diary.note(&Note::Writes(peer, text, wrote));
@@ -145,11 +144,11 @@ impl<O: Outside> Outside for TellingOutside<O> {
     }
 
     fn hang_up(&mut self, peer: u32) -> Result<(), OutFault>
-        ensures told { Tells (Some self.old.diary.history) (Some self.new.diary.history) result (λ _. HungUp peer ∷ []) }
+        ensures told { Tells (Some self.old.diary.history) (Some self.new.diary.history)
+            result (λ _. HungUp peer ∷ []) }
         ensures counted { CountsPlain (O.counts self.old.inner) (O.counts self.new.inner) result }
-
-        ensures inner { (before : History) → O.told self.old.inner ≡ Some (self.old.diary.history ++ before)
-            → O.told self.new.inner ≡ Some (self.new.diary.history ++ before) }
+        ensures inner { TellsAsNoted (O.told self.old.inner) (O.told self.new.inner)
+            self.old.diary.history self.new.diary.history }
     {
         self.inner.hang_up(peer)?;
         self.diary.note(&Note::HangsUp(peer));

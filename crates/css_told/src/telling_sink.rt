@@ -1,6 +1,7 @@
-ghost use Rattle.std.specs.Prelude.{◌≡◌, ◌<◌, ◌≤◌, ◌++◌, List, ℕ, Some, [], length, IfOk};
+ghost use Rattle.std.specs.Prelude.{◌≡◌, ◌<◌, ◌≤◌, Some, [], length, IfOk};
 ghost use Rattle.std.specs.Io.KnownBytes.{WriteAppends};
 ghost use Rattle.css_outside.specs.Faults.{CountsCall};
+ghost use Rattle.css_told.specs.Noted.{HoldsAsGiven};
 
 use crate::given::Given;
 use css_outside::{OutFault, Sink};
@@ -35,9 +36,8 @@ impl<K: Sink> Sink for TellingSink<K> {
         ensures some { IfOk result (λ count. 0 < length bytes.now → 0 < count) }
         ensures bytes { WriteAppends (Some self.old.given.bytes) (Some self.new.given.bytes) result bytes.now }
         ensures counted { CountsCall (K.faults self.old.inner) (K.faults self.new.inner) result }
-
-        ensures inner { (before : List ℕ) → K.holds self.old.inner ≡ Some (before ++ self.old.given.bytes)
-            → K.holds self.new.inner ≡ Some (before ++ self.new.given.bytes) }
+        ensures inner { HoldsAsGiven (K.holds self.old.inner) (K.holds self.new.inner)
+            self.old.given.bytes self.new.given.bytes }
     {
         let count = self.inner.write(bytes)?;
         self.given.add(bytes, count);

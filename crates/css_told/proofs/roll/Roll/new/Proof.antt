@@ -1,0 +1,29 @@
+-- `new` makes the value of no room, at the empty list.
+use Rattle.std.proofs.Common.{[], ◌∷◌, refl}
+use mir.Val.{vstruct, vnil}
+use Rattle.std.proofs.raw_atomic.Walks.{proved}
+use types.Kit.{raw, ‵, ◌$◌, ◌∵◌, !, qed, keep, join, suffices, done}
+use types.Run.{no_more, returns, enter}
+use types.Part.{agg}
+use types.ByLocal.{alloc_all, pass_all, free_all, look_at, sets}
+use base.Fml.{ftrue}
+use denote.Shadow.{pure_i}
+use denote.Steps.{nothing}
+use denote.Triple.Entry.{on_entry}
+use denote.Triple.Walked.{says, ends_at}
+use Rattle.css_told.specs.contracts.roll.Roll.{the_row as R}
+use Rattle.css_told.specs.contracts.roll.Roll.new as f
+use Rattle.css_told.proofs.roll.Roll.new.Statement.{statement}
+use Rattle.css_told.proofs.roll.Roll.new.Code as code
+
+pub new_spec : {M : Type 1} → statement M
+new_spec 𝓤 𝓛 𝓜 𝓡 wired =
+    let c = f.clauses 𝓛 𝓜.mem 𝓡.returns in
+    proved 𝓛 f.ended tt c 𝓜 𝓡 tt f.Key.name code.function (code.unfolded 𝓤 𝓛.H 𝓜 𝓡 wired) (λ κs. tt) (λ κs. tt)
+    (λ κs qs bounds a _ are.
+    qed 𝓛 (raw (on_entry 𝓛 f.signature κs qs a tt) ∷ ‵ ftrue ∷ []) ∵ keep ! [] $
+    enter ! _ _ _ _ _ $ alloc_all ! (λ l. pass_all ! refl tt $ sets ! (agg ! (no_more !)) refl (tt, tt) $
+    returns ! (look_at ! 0 refl) $ free_all ! refl $
+    pure_i ! (R.own_val (record { children = [] }) (vstruct vnil ∷ [])) ((λ vss. (tt, tt)), tt) ((tt, (refl, tt)), tt) $
+    suffices ! _ (ends_at 𝓛 f.ended tt c ((κs, qs, bounds, a, tt), tt) (vstruct vnil) (record { children = [] }) tt tt) $
+    says ! refl $ nothing ! $ join ! $ nothing ! $ done !))
