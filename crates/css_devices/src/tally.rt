@@ -106,6 +106,7 @@ impl Tally {
     pub fn not_dialled(&mut self, fault: OutFault) -> Result<u32, OutFault>
         ensures counted { CountsDial self.old.counts self.new.counts result }
         ensures same { result ≡ Err fault }
+        ensures before { self.new.before ≡ self.old.before }
     {
         match fault {
             OutFault::Failed(failure) => {
@@ -121,6 +122,7 @@ impl Tally {
         requires { self.old.counts.peers < peer }
         ensures counted { CountsDial self.old.counts self.new.counts result }
         ensures same { MatchResult outcome (λ _. result ≡ Ok peer) (λ fault. result ≡ Err fault) }
+        ensures before { self.new.before ≡ self.old.before }
     {
         match outcome {
             Ok(()) => {
@@ -143,6 +145,7 @@ impl Tally {
         ensures same { MatchResult outcome
             (λ came. result ≡ Ok (option_map (λ kind. (peer, kind)) came))
             (λ fault. result ≡ Err fault) }
+        ensures before { self.new.before ≡ self.old.before }
     {
         match outcome {
             Ok(None) => Ok(None),
