@@ -1,7 +1,7 @@
 //! The standard streams' own descriptors: one that the program was started without, and a standard error that nobody
 //! reads.
 
-ghost use Rattle.std.specs.Prelude.{◌≡◌, take};
+ghost use Rattle.css_outside.specs.Bytes.{IsPrefix};
 
 use libc::net::{POLLOUT, poll};
 use libc::types::pollfd;
@@ -66,13 +66,10 @@ impl<W: Write + AsRawFd> PatientWriter<W> {
 
 /// The front of some bytes, as much of them as is written at once.
 fn piece_of(bytes: &[u8]) -> &[u8]
-    ensures { result.now ≡ take 4096 bytes.now }
+    ensures { IsPrefix result.now bytes.now }
 {
-    if bytes.len() <= PIECE {
-        bytes
-    } else {
-        &bytes[..PIECE]
-    }
+    let (piece, _) = bytes.split_at(bytes.len().min(PIECE));
+    piece
 }
 
 impl<W: Write + AsRawFd> Write for PatientWriter<W> {

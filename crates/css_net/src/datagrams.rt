@@ -1,8 +1,10 @@
-ghost use Rattle.std.specs.Prelude.{◌≤◌, IfOk, IfSome};
+ghost use Rattle.std.specs.Prelude.{◌≡◌, ◌≤◌, IfOk, IfSome};
+ghost use Rattle.css_net.specs.Senders.{Means};
 ghost use Rattle.css_outside.specs.Outsides.{FitsRoom};
 
 use crate::names::any_port;
 use crate::pace::{LookUps, Pace};
+use crate::senders::Senders;
 use crate::watch::Watch;
 use css_devices::FIRST_SENDER;
 use css_devices::faults::{fault_of, no_room};
@@ -18,61 +20,12 @@ use std::time::{Clock, Duration};
 const LISTENER: usize = 0;
 /// The name under which the link's socket is watched.
 const LINK: usize = 1;
-/// How many senders are remembered. The answer to a request goes out before the next is taken.
-const MOST_SENDERS: usize = 64;
 /// How many datagrams that nobody can answer, and errors of earlier ones, are passed over at once.
 const MOST_PASSED: usize = 16;
 /// How many addresses of one host are used.
 const MOST_ADDRESSES: usize = 8;
 /// How many requests in a row may be without an answer before the next address is asked.
 const MOST_UNANSWERED: u32 = 4;
-
-/// Who sent a datagram.
-#[derive(Clone, Copy)]
-struct Sender {
-    peer: u32,
-    address: SocketAddr,
-}
-
-/// Those who sent datagrams to a socket that listens.
-#[derive(Drop)]
-struct Senders {
-    list: Vec<Sender>,
-    oldest: usize,
-    next: u32,
-}
-
-impl Senders {
-    fn new(alloc: Global) -> Senders {
-        Senders {
-            list: Vec::new(alloc),
-            oldest: 0,
-            next: FIRST_SENDER,
-        }
-    }
-
-    /// The number of a sender: its own, or the next where it isn't remembered. The oldest one makes room.
-    fn peer_of(&mut self, address: SocketAddr) -> Result<u32, OutFault> {
-        if let Some(sender) = self.list.iter().find(|sender| sender.address == address) {
-            return Ok(sender.peer);
-        }
-        let peer = self.next;
-        let sender = Sender { peer, address };
-        if self.list.len() < MOST_SENDERS {
-            self.list.push(sender).map_err(no_room)?;
-        } else if let Some(place) = self.list.get_mut(self.oldest) {
-            *place = sender;
-            self.oldest = self.oldest.saturating_add(1) % MOST_SENDERS;
-        }
-        self.next = peer.checked_add(1).unwrap_or(FIRST_SENDER);
-        Ok(peer)
-    }
-
-    fn address_of(&self, peer: u32) -> Option<SocketAddr> {
-        let sender = self.list.iter().find(|sender| sender.peer == peer)?;
-        Some(sender.address)
-    }
-}
 
 /// Sends a datagram. What the system refuses to send is lost; an error that an earlier datagram left is told first, so
 /// it is tried twice.
@@ -93,6 +46,18 @@ fn send_through(
         }
     }
     Ok(())
+}
+
+/// Sends a datagram to an address, and gives that address.
+fn send_to(
+    socket: &UdpSocket,
+    address: SocketAddr,
+    bytes: &[u8; 32],
+) -> Result<SocketAddr, OutFault>
+    ensures { IfOk result (λ to. to ≡ address) }
+{
+    send_through(socket, Some(address), bytes)?;
+    Ok(address)
 }
 
 /// The next datagram of a socket, where one has come. One from port 0 can't be answered, and is passed over; so is what
@@ -133,17 +98,17 @@ impl Listener {
         ensures room { IfOk result FitsRoom }
     {
         match received(&self.socket, into)? {
-            Some((from, count)) => {
-                let peer = self.senders.peer_of(from)?;
-                Ok(Some((peer, count)))
-            }
+            Some((from, count)) => { Ok(Some((self.senders.peer_of(from), count))) }
             None => Ok(None),
         }
     }
 
-    fn send(&self, peer: u32, bytes: &[u8; 32]) -> Result<(), OutFault> {
+    /// Sends a datagram to a sender that is remembered, and gives the address that its number means.
+    fn send(&self, peer: u32, bytes: &[u8; 32]) -> Result<SocketAddr, OutFault>
+        ensures to { IfOk result (Means self.now.senders.list self.now.senders.next peer) }
+    {
         match self.senders.address_of(peer) {
-            Some(address) => send_through(&self.socket, Some(address), bytes),
+            Some(address) => send_to(&self.socket, address, bytes),
             None => Err(OutFault::Failed(Failure::Other)),
         }
     }
@@ -237,7 +202,7 @@ impl Datagrams {
         let socket = self.watch.add_reader(rt, socket, LISTENER)?;
         Ok(Listener {
             socket,
-            senders: Senders::new(self.alloc),
+            senders: Senders::new(),
         })
     }
 
@@ -342,9 +307,10 @@ impl Datagrams {
                 None => Err(OutFault::Failed(Failure::Other)),
             };
         }
-        match &self.listener {
-            Some(listener) => listener.send(peer, bytes),
-            None => Err(OutFault::Failed(Failure::Other)),
-        }
+        let Some(listener) = &self.listener else {
+            return Err(OutFault::Failed(Failure::Other));
+        };
+        listener.send(peer, bytes)?;
+        Ok(())
     }
 }

@@ -1,5 +1,8 @@
 //! One WebSocket session, by turns that never wait.
 
+ghost use Rattle.std.specs.Prelude.{IfOk};
+ghost use Rattle.css_net.specs.Texts.{ComesTo};
+
 use crate::masks::Masks;
 use crate::metered::Metered;
 use css_devices::faults::{no_memory, would_wait};
@@ -246,7 +249,9 @@ fn close(socket: &mut Socket, code: CloseCode) {
 }
 
 /// What a message comes to.
-fn came_by(alloc: Global, message: &Message) -> Result<Came, Stop> {
+fn came_by(alloc: Global, message: &Message) -> Result<Came, Stop>
+    ensures { IfOk result (ComesTo message.now) }
+{
     match message {
         Message::Text(text) => match Text::of(alloc, text.as_str().as_bytes()) {
             Ok(text) => Ok(Came::Text(text)),
