@@ -105,8 +105,7 @@ fn main(rt: HostRuntime) -> ExitCode {
     let mut outside = TellingOutside::new(NetOutside::new(rt.alloc(), &rt));
     let mut spawner = TellingSpawner::new(ChildSpawner::new(rt.alloc(), &rt));
     let mut followers = cues_and_meter(rt.alloc());
-    let errors = PatientWriter::new(rt.stderr().lock());
-    let mut errors = TellingSink::new(StdSink::new(errors, &rt));
+    let mut errors = TellingSink::new(StdSink::new(PatientWriter::new(rt.stderr().lock()), &rt));
     let words = words(&rt);
     let status = match &words {
         Ok(words) => {

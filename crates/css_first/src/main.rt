@@ -14,7 +14,6 @@ fn main(rt: HostRuntime) -> ExitCode {
     let mut source = StdSource::new(rt.reader(), &rt);
     let mut sink = TellingSink::new(StdSink::new(io::writer(&rt), &rt));
     let status = replay(rt.alloc(), &mut source, &mut sink);
-    let errors = PatientWriter::new(rt.stderr().lock());
-    let mut errors = TellingSink::new(StdSink::new(errors, &rt));
+    let mut errors = TellingSink::new(StdSink::new(PatientWriter::new(rt.stderr().lock()), &rt));
     ExitCode::from(tell(rt.alloc(), &status, &mut errors).number)
 }

@@ -26,5 +26,5 @@ new_spec 𝓤 𝓛 𝓜 𝓡 wired =
     returns ! (look_at ! 0 refl) $ free_all ! refl $
     pure_i ! (R.own_val (record { children = [] }) (vstruct vnil ∷ [])) ((λ vss. (tt, tt)), tt) ((tt, (refl, tt)), tt) $
     suffices ! _ (ends_at 𝓛 f.ended tt c ((κs, qs, bounds, a, tt), tt) (vstruct vnil) (record { children = [] })
-        tt tt) $
+    tt tt) $
     says ! refl $ nothing ! $ join ! $ nothing ! $ done !))
