@@ -196,6 +196,15 @@ pub const CUES: Row = Row {
     ..K
 };
 
+/// A report and what is said of it are one write: where the second one fails, the first holds both.
+pub const CUES_CUT: Row = Row {
+    name: "the second write of a run with cues fails",
+    sink_fails: &[2],
+    ended: "WriteFault",
+    told: "1 ticks 900000 900000; cue start passed; width 0",
+    ..CUES
+};
+
 pub const LACKING: Row = Row {
     name: "a follower lacks memory",
     ended: "Memory",

@@ -2,7 +2,7 @@
 //! row.
 use crate::audits::words;
 use crate::companion_rows::{
-    ANSWERS, CUES, CUTS, DIALS, K, LACKING, REFUSALS, SESSIONS, TURNS, UNWRITTEN,
+    ANSWERS, CUES, CUES_CUT, CUTS, DIALS, K, LACKING, REFUSALS, SESSIONS, TURNS, UNWRITTEN,
 };
 use crate::rows::{Row, lines_of};
 use crate::runs::{NO_MEMORY, assert_told, companion, recorded};
@@ -131,15 +131,17 @@ fn assert_followed<F: Listens>(
 
 #[test]
 fn cues_and_widths_stand_behind_their_report(rt: HostRuntime) {
-    let mut followers = Before {
-        first: Cues::new(rt.alloc()),
-        rest: Before {
-            first: Meter::new(rt.alloc()),
-            rest: Nobody,
-        },
-    };
-    let sheet = b"cue 900000 start\nmeter 1\n";
-    assert_followed(&rt, rt.alloc(), &CUES, sheet, &mut followers);
+    for row in &[CUES, CUES_CUT] {
+        let mut followers = Before {
+            first: Cues::new(rt.alloc()),
+            rest: Before {
+                first: Meter::new(rt.alloc()),
+                rest: Nobody,
+            },
+        };
+        let sheet = b"cue 900000 start\nmeter 1\n";
+        assert_followed(&rt, rt.alloc(), row, sheet, &mut followers);
+    }
 }
 
 #[test]

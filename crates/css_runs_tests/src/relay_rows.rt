@@ -149,11 +149,11 @@ pub const VISITS: &[Row] = &[
             turn; dial; other; send 3 0 0 0; take; other; accept; text 1; say 2 {\"presentationStatus\":\"okay\"}; \
             text 2; turn; other; send 3 0 0 0; take; other; hang 2; hang 1; \
             turn; dial; take; accept; text 4; hang 4", ..QUIET },
-    Row { name: "a sleep lies between them, so they don't contradict each other", slept: &[2000],
+    Row { name: "a sleep lies between them, so they don't contradict each other", slept: &[1900],
         told: "SERVE; turn; dial; take; accept; say 2 UNKNOWN; text 1; say 2 OWN; text 2; \
             turn; dial; other; send 3 0 0 0; take; other; accept; text 1; say 2 {\"presentationStatus\":\"okay\"}; \
             text 2; turn; other; send 3 0 0 0; take; other; accept; text 1; text 2; hang 2; hang 1",
-        turns: 3, times: &[900, 950, 1000, 1600, 2000, 2000, 2100], datagrams: &[b"", RESPONSE, FALSE],
+        turns: 3, times: &[900, 950, 1000, 1600, 1900, 2000, 2100], datagrams: &[b"", RESPONSE, FALSE],
         openings: &[Some(Kind::Cii)], texts: &[(1, ADDRESSES), (1, OKAY)], ..QUIET },
     Row { name: "a hang-up at the end of a visit fails", turns: 2, texts: &[(1, Some("[]"))], fails: &[7],
         ended: "NetFault", told: "SERVE; turn; dial; take; accept; text 1; hang 1", ..QUIET },
