@@ -1,5 +1,6 @@
 /* Each allocation is refused in turn: malloc, realloc and free are wrapped (-Wl,--wrap=..). After a refusal the same
- * call is made again, and the whole evening ends as without one, with no block left. */
+ * call is made again, and the whole evening ends as without one, with no block left. Each call that takes no memory is
+ * made too, and asks for none, whatever it answers. */
 #include "css_companion.h"
 #include <stdio.h>
 #include <stdlib.h>
@@ -9,9 +10,10 @@ void *__real_malloc(size_t);
 void *__real_realloc(void *, size_t);
 void __real_free(void *);
 
-static long left = -1, live, refused;
+static long left = -1, live, refused, asked;
 
 static int fails(void) {
+    asked++;
     if (left < 0 || left-- != 0) return 0;
     refused++;
     return 1;
@@ -49,37 +51,100 @@ static const char *control = "{\"contentTime\":\"900000\",\"timelineSpeedMultipl
         if (code) return code * 1000 + __LINE__;                                                                       \
     } while (0)
 /* takes no memory, so it is never made again */
-#define DO(call)                                                                                                       \
+#define IS(call, wanted)                                                                                               \
     do {                                                                                                               \
+        long before = asked;                                                                                           \
         uint32_t code = (call);                                                                                        \
-        if (code) return code * 1000 + __LINE__;                                                                       \
+        if (code != (wanted) || asked != before) return (asked - before) * 1000000 + code * 1000 + __LINE__;           \
     } while (0)
+#define DO(call) IS(call, CSS_DONE)
+
+static uint8_t request[32], out[1024];
+static size_t used;
+static css_span span;
+static css_readings when;
+static css_snapshot copy;
+static uint64_t last;
+
+/* An answer of an error that was declared before, and datagrams that are refused. */
+static int datagrams(css_companion *c) {
+    uint8_t answer[32], changed[32];
+    DO(css_companion_ask(c, 1700, request));
+    memcpy(answer, promise, 32);
+    answer[1] = 1;
+    DO(css_companion_land(c, answer, 32, 1700));
+    IS(css_companion_land(c, answer, 31, 1700), CSS_UNDECODABLE);
+    IS(css_companion_land(c, request, 32, 1700), CSS_NOT_AN_ANSWER);
+    memcpy(changed, answer, 32);
+    changed[15]++;
+    IS(css_companion_land(c, changed, 32, 1700), CSS_UNASKED);
+    memcpy(changed, answer, 32);
+    changed[30] = 0x90;
+    IS(css_companion_land(c, changed, 32, 1700), CSS_IMPOSSIBLE);
+    IS(css_companion_land(c, answer, 32, 5), CSS_EARLY);
+    return 0;
+}
+
+/* What is told by numbers: done, and at a wrong reading. */
+static int numbers(css_companion *c, css_position *p) {
+    DO(css_companion_wall(c, 1700, &span));
+    IS(css_companion_wall(c, 5, &span), CSS_EARLY);
+    DO(css_companion_position(c, 1700, p));
+    IS(css_companion_position(c, UINT64_MAX, p), CSS_RANGE);
+    DO(css_companion_lead(c, 1700, 900000, &span));
+    DO(css_companion_when(c, 990000, &when));
+    IS(css_companion_when(c, 0, &when), CSS_NEVER);
+    DO(css_companion_until(c, 1000, &last));
+    IS(css_companion_until(c, 0, &last), CSS_NEVER);
+    DO(css_companion_snapshot(c, &copy));
+    DO(css_snapshot_position(&copy, 1700, p));
+    IS(css_snapshot_position(&copy, 5, p), CSS_EARLY);
+    IS(css_companion_age(c) == 0, 0);
+    IS(css_companion_version(), CSS_VERSION);
+    return 0;
+}
+
+/* Texts that were kept. */
+static int texts(css_companion *c) {
+    css_rate rate;
+    DO(css_companion_cii_field(c, CSS_WC_URL, out, sizeof out, &used));
+    IS(css_companion_cii_field(c, CSS_WC_URL, out, 1, &used), CSS_NO_ROOM);
+    IS(css_companion_cii_field(c, CSS_TE_URL, out, sizeof out, &used), CSS_NULL);
+    DO(css_companion_timeline(c, 0, &rate, out, sizeof out, &used));
+    IS(css_companion_timeline(c, 1, &rate, out, sizeof out, &used), CSS_NULL);
+    DO(css_companion_words(CSS_MEMORY, out, sizeof out, &used));
+    return 0;
+}
+
+/* Once the session is closed, after a sleep, and without a companion. */
+static int ends(css_companion *c, css_position *p) {
+    DO(css_companion_ts_closed(c));
+    IS(css_companion_position(c, 1700, p), CSS_SESSION_CLOSED);
+    IS(css_companion_when(c, 990000, &when), CSS_SESSION_CLOSED);
+    DO(css_companion_slept(c));
+    IS(css_companion_wall(c, 1701, &span), CSS_NO_ANSWER);
+    IS(css_companion_until(c, 1000, &last), CSS_NO_ANSWER);
+    IS(css_companion_snapshot(c, &copy), CSS_NO_ANSWER);
+    IS((css_companion_free(c), 0), 0);
+    IS((css_companion_free(c), 0), 0);
+    IS(css_companion_slept(c), CSS_CLOSED);
+    IS(css_companion_cii(c, TEXT(cii)), CSS_CLOSED);
+    return live ? __LINE__ : 0;
+}
 
 static int evening(css_companion *c, css_position *p) {
-    uint8_t request[32], out[1024];
-    size_t used;
-    css_span span;
-    css_readings when;
-    css_snapshot copy;
-    uint64_t last;
     css_bound earliest = {1, 2, false}, latest = {1, 2, true};
+    TRY(css_companion_new(c, TEXT("urn:dvb:css:timeline:temi:1:1"), TEXT(""), 0, 0));
     TRY(css_companion_new(c, TEXT("urn:dvb:css:timeline:pts"), TEXT("dvb://"), 0, 0));
     DO(css_companion_ask(c, 1000, request));
     TRY(css_companion_land(c, promise, 32, 1600));
-    DO(css_companion_wall(c, 1600, &span));
     TRY(css_companion_cii(c, TEXT(cii)));
-    DO(css_companion_cii_field(c, CSS_WC_URL, out, sizeof out, &used));
     TRY(css_companion_cii_state(c, out, sizeof out, &used));
     TRY(css_companion_setup(c, out, sizeof out, &used));
     TRY(css_companion_control(c, TEXT(control)));
     TRY(css_companion_report(c, 1, 1600, out, sizeof out, &used));
     TRY(css_companion_presentation(&earliest, &latest, out, sizeof out, &used));
     DO(css_companion_position(c, 1600, p));
-    DO(css_companion_lead(c, 1600, 900000, &span));
-    DO(css_companion_when(c, 990000, &when));
-    DO(css_companion_until(c, 1000, &last));
-    DO(css_companion_snapshot(c, &copy));
-    DO(css_snapshot_position(&copy, 1600, p));
     return 0;
 }
 
@@ -91,8 +156,12 @@ int main(void) {
         left = n;
         int told = evening(&c, &p);
         left = -1;
-        css_companion_free(&c);
-        if (told || live || p.lo != 900000 || p.hi != 900000) {
+        bool is_told = p.lo == 900000 && p.hi == 900000;
+        if (!told) told = datagrams(&c);
+        if (!told) told = numbers(&c, &p);
+        if (!told) told = texts(&c);
+        if (!told) told = ends(&c, &p);
+        if (told || live || !is_told) {
             printf("allocation %ld: %d, %ld blocks\n", n, told, live);
             return 1;
         }
