@@ -98,8 +98,8 @@ BAD = [
     ("[Errno 111] Connection refused", answered("HERE", "HOST:1")),
     ("/d.xml has HTTP status 404", described(first="HTTP/1.1 404 Not Found")),
     ("/d.xml has HTTP status 302", described(head="Location: http://AWAY/d.xml\r\n", first="HTTP/1.1 302 Found")),
-    ("/apps/HbbTV has HTTP status 404", told(first="HTTP/1.1 404 Not Found")),
-    ("/apps/HbbTV has HTTP status 307", told(head="Location: http://AWAY/\r\n", first="HTTP/1.1 307 Moved")),
+    ("a set: /apps/HbbTV has HTTP status 404", told(first="HTTP/1.1 404 Not Found")),
+    ("a set: /apps/HbbTV has HTTP status 307", told(head="Location: http://AWAY/\r\n", first="HTTP/1.1 307 Moved")),
     ("a set tells no Application-URL", described(head="")),
     ("its Application-URL is of another host: http://AWAY/apps", described(head=URLS.replace("HERE", "AWAY"))),
     ("its Application-URL is no URL: http://HERE/?]0;title??[2J", described(head=URLS.replace("apps", ESCAPES))),
@@ -111,10 +111,10 @@ BAD = [
     ("what it says is no XML: ", {"application": http("<a>" * 20_000)}),
     ("its XML declares a document type or entities", {"description": http(BOMB, URLS)}),
     ("it says more than 65536 bytes", {"description": http(b" " * 10_000_000, URLS)}),
-    ("it says more than 65536 bytes", {"application": lambda: again(b" " * 1_000_000, OK + b"\r\n")}),
-    ("it says more than 65536 bytes",
+    ("a set: it says more than 65536 bytes", {"application": lambda: again(b" " * 1_000_000, OK + b"\r\n")}),
+    ("a set: it says more than 65536 bytes",
      {"application": lambda: again(b" " * 1_000_000, OK + b"Content-Length: 9999999999999\r\n\r\n")}),
-    ("it says more than 65536 bytes",
+    ("a set: it says more than 65536 bytes",
      {"application": lambda: again(b"8000\r\n%s\r\n" % (b" " * 0x8000), OK + b"Transfer-Encoding: chunked\r\n\r\n")}),
     ("it says more than 65536 bytes", {"description": lambda: again(b"HTTP/1.1 100 Continue\r\n\r\n" * 1000)}),
     ("it says more than 65536 bytes", {"description": lambda: again(b"H" * 100_000)}),
@@ -228,10 +228,10 @@ def find(*words, encoding="utf-8"):
     return done.returncode, done.stdout.decode(encoding), done.stderr.decode(encoding)
 
 
-def find_all(network, enough, *words, encoding="utf-8"):
+def find_all(to, enough, *words, encoding="utf-8"):
     """The same where it finds enough. On a busy machine it may need more seconds for it."""
     for seconds in (2, 5, 15, 45):
-        end = find("--to", network.to, "--seconds", str(seconds), *words, encoding=encoding)
+        end = find("--to", to, "--seconds", str(seconds), *words, encoding=encoding)
         if enough(*end):
             break
     return end
@@ -245,7 +245,7 @@ def all_at_once():
     bad, good = network.sets[:len(BAD)], network.sets[len(BAD):]
     words = [f"skipped {one.host}: {one.filled(why).decode()}" for one, (why, _) in zip(bad, BAD)]
     lines = [f"{one.filled(name).decode()}: {one.url}" for one, (name, _) in zip(good, GOOD)]
-    got, out, errors = find_all(network, lambda _, out, errors: all(line in errors for line in words)
+    got, out, errors = find_all(network.to, lambda _, out, errors: all(line in errors for line in words)
                                 and all(line in out for line in lines))
     most = resource.getrusage(resource.RUSAGE_CHILDREN).ru_maxrss
     for one, (why, _), line in zip(bad, BAD, words):
@@ -271,13 +271,13 @@ def one_of_several():
     def all_there(_, out, errors):
         return "3 were found" in errors or "none of them" in errors or len(out.splitlines()) == 3
 
-    got = find_all(network, all_there, "--one")
+    got = find_all(network.to, all_there, "--one")
     check("--one is the first by name", got[:2] == (0, f"{urls[1]}\n") and "this is Attic" in got[2], got)
-    got = find_all(network, lambda *end: end[0] == 0, "--one", "--name", "LIVING")
+    got = find_all(network.to, lambda status, *_: status == 0, "--one", "--name", "LIVING")
     check("--name chooses another", got == (0, f"{urls[0]}\n", ""), got)
-    got = find_all(network, all_there, "--one", "--name", "cellar")
+    got = find_all(network.to, all_there, "--one", "--name", "cellar")
     check("a name that none of them has", got[:2] == (1, "") and "Attic, K\u00fcche, Living room" in got[2], got)
-    got = find_all(network, all_there, encoding="ascii")
+    got = find_all(network.to, all_there, encoding="ascii")
     check("a terminal without such letters", got[0] == 0 and f"K?che: {urls[2]}\n" in got[1], got)
     network.end()
 
@@ -285,13 +285,13 @@ def one_of_several():
 def flooded():
     """A set that answers for hundreds, and hundreds of sets."""
     network = Network([{"answer": lambda: [ANSWER.replace("d.xml", str(at)) for at in range(500)]}])
-    got = find_all(network, lambda _, out, errors: "more than 4 times" in errors)
+    got = find_all(network.to, lambda _, out, errors: "more than 4 times" in errors)
     lines = [line for line in got[2].splitlines() if "skipped" in line]
     check("a set that answers for hundreds", "127.0.0.2: it answers more than 4 times" in got[2], lines)
-    check("it counts for one", got[1].splitlines() == [f"a set: {network.sets[0].url}"], got[1])
+    check("it counts for one", got[1] == f"a set: {network.sets[0].url}\n", got[1].strip())
     network.end()
     network = Network([answered("LOCATION", "X-LOCATION")] * 200)
-    got = find_all(network, lambda _, out, errors: "after 64 answers" in errors)
+    got = find_all(network.to, lambda _, out, errors: "after 64 answers" in errors)
     lines = [line for line in got[2].splitlines() if "skipped" in line]
     check("hundreds of sets", got[:2] == (1, "") and len(lines) == 65, len(lines))
     network.end()
@@ -300,12 +300,13 @@ def flooded():
 def nothing_found(port):
     got = find("--to", f"127.0.0.1:{port}", "--seconds", "1", "--one")
     check("nothing is found", got[:2] == (1, "") and all(word in got[2] for word in (
-        "same network", "HbbTV", "broadcast", "--interface", "firewall")), got[2][:100])
+        "same network", "HbbTV", "broadcast", "--interface", "firewall")), got[2].splitlines()[:1])
     got = find("--interface", "192.0.2.1", "--seconds", "1")
     check("an address of another machine", got[:2] == (1, "") and "Cannot assign" in got[2], got)
     for words in ("--seconds 0", "--seconds 61", "--to 127.0.0.1", "--to 127.0.0.1:0", "--interface 1.2.3.4.5", "one"):
         got = find(*words.split())
-        check(f"refused: {words}", got[0] == 2 and words.split()[0] in got[2].splitlines()[-1], got[2][-100:])
+        said = got[2].splitlines()[-1]
+        check(f"refused: {words}", got[:2] == (2, "") and words.split()[0] in said, said)
 
 
 # ---- the checks of announce.py
@@ -314,23 +315,46 @@ class Announced:
     """A run of tools/announce.py, and where it says that its description is."""
 
     def __init__(self, to, *words):
-        self.child = subprocess.Popen([sys.executable, ANNOUNCE, "--to", to, *words], stderr=subprocess.PIPE)
+        self.child = subprocess.Popen([sys.executable, ANNOUNCE, "--to", to, *words], stderr=subprocess.PIPE,
+                                      start_new_session=True)
         STARTED.append(self.child)
-        self.said = self.child.stderr.readline().decode()
+        self.said = self.child.stderr.readline().decode().strip()
         self.url = self.said.split()[-1] if "announced" in self.said else ""
+        self.port = int(self.url.split("/")[2].partition(":")[2]) if self.url else 0
 
     def got(self, path):
-        """What it answers for a path, and its head."""
-        port = int(self.url.split("/")[2].partition(":")[2])
-        head, _, body = all_of(asked(port, f"GET {path} HTTP/1.1")).partition(b"\r\n\r\n")
+        """What it answers for a path: the head and the body."""
+        try:
+            head, _, body = all_of(asked(self.port, f"GET {path} HTTP/1.1")).partition(b"\r\n\r\n")
+        except OSError:
+            return "", ""
         return head.decode(), body.decode()
 
 
-def announced(port):
-    """It answers the searches for a set, and those alone, with what leads to its CSS-CII."""
-    to = f"127.0.0.1:{port}"
-    tv = Announced(to, "--cii", "ws://127.0.0.1:7681/a/cii", "--name", 'Mum & Dad\'s <"TV">')
-    check("it says what it announces", "announce.py: ws://127.0.0.1:7681/a/cii is announced by" in tv.said, tv.said)
+def drip(conn, over):
+    """Asks letter by letter, until it is hung up."""
+    try:
+        while not over.wait(0.5):
+            conn.sendall(b"x")
+    except OSError:
+        pass
+
+
+def crowded(tv, path):
+    """More slow ones than it has room for hold it up for a while alone."""
+    over, end, served = threading.Event(), time.monotonic() + PATIENCE, False
+    slow = [socket.create_connection(("127.0.0.1", tv.port)) for _ in range(40)]
+    for conn in slow:
+        conn.sendall(b"GET / HTTP/1.1\r\nX: ")
+        threading.Thread(target=drip, args=(conn, over), daemon=True).start()
+    while not served and time.monotonic() < end:
+        served = tv.got(path)[0].startswith("HTTP/1.0 200 ")
+    over.set()
+    return served
+
+
+def searched(tv, port):
+    """It answers the searches for a set, and those alone, with what leads to its description."""
     with socket.socket(socket.AF_INET, socket.SOCK_DGRAM) as asks:
         asks.settimeout(PATIENCE)
         asks.bind(("127.0.0.1", 0))
@@ -348,19 +372,29 @@ def announced(port):
     check("by its place", answers[0][1] == ("127.0.0.1", port), answers[0][1])
     check("and with its LOCATION", head == "HTTP/1.1 200 OK" and f"\r\nLOCATION: {tv.url}\r\n" in lines
           and f"\r\nST: {SERVICE}\r\n" in lines and lines.endswith(f"::{SERVICE}\r\n\r\n"), tv.url)
+
+
+def announced(port):
+    """What it serves, and the words that it refuses."""
+    to = f"127.0.0.1:{port}"
+    tv = Announced(to, "--cii", "ws://127.0.0.1:7681/a/cii", "--name", 'Mum & Dad\'s <"TV">')
+    check("it says what it announces", "announce.py: ws://127.0.0.1:7681/a/cii is announced by" in tv.said, tv.said)
+    searched(tv, port)
     paths = ["/" + tv.url.split("/", 3)[3], "/apps/HbbTV", "/", "/apps", "/../etc/passwd", "/apps/HbbTV/run"]
     heads = [tv.got(path)[0].split("\r\n")[0] for path in paths]
-    check("it serves two things", [head.split()[1] for head in heads] == ["200"] * 2 + ["404"] * 4, heads)
-    got = find("--to", to, "--seconds", "5")
+    check("it serves two things", [head.split()[1:2] for head in heads] == [["200"]] * 2 + [["404"]] * 4, heads)
+    check("forty who ask too slowly don't hold it up", crowded(tv, paths[0]))
+    got = find_all(to, lambda status, *_: status == 0)
     check("it is found", got[:2] == (0, 'Mum & Dad\'s <"TV">: ws://127.0.0.1:7681/a/cii\n'), got)
     second = Announced(to)
-    check("its place is its own", second.child.wait(PATIENCE) == 1 and "in use" in second.said, second.said.strip())
+    check("its place is its own", second.child.wait(PATIENCE) == 1 and "in use" in second.said, second.said)
     for words in (["--cii", "ws://127.0.0.2:1/"], ["--interface", "127.0.0.2"], ["--cii", "wss://127.0.0.1:1/"],
                   ["--cii", "ws://tv:6677/cii"], ["--name", "\x1b"], ["--name", ""]):
         other = Announced(f"127.0.0.1:{port + 1}", *words)
-        check(f"refused: {words}", other.child.wait(PATIENCE) == 2, other.said.strip())
+        said = other.child.stderr.read().decode().strip().rpartition("error: ")[2]
+        check(f"refused: {words}", other.child.wait(PATIENCE) == 2, said)
     brief = Announced(f"127.0.0.1:{port + 1}", "--seconds", "1")
-    check("it ends in time", brief.child.wait(PATIENCE) == 0 and brief.url)
+    check("it ends in time", brief.child.wait(PATIENCE) == 0 and bool(brief.url))
 
 
 def alone():
@@ -378,21 +412,13 @@ def alone():
 
 # ---- a new user's trial
 
-def commands(css, port):
-    """GUIDE's commands that find, watch and show a television, for this program, here."""
+def commands(css, port, seconds):
+    """GUIDE's commands that find, watch and show a television, for this program, and at these places."""
     page = GUIDE.read_text(encoding="utf-8").partition("## Find your television\n")[2]
     lines = page.partition("```sh\n")[2].partition("```")[0].splitlines()
-    return [line.partition("  #")[0].replace("tools/find.py", f"tools/find.py --to 127.0.0.1:{port + 1}")
-            .replace("./css", shlex.join(css)).replace("tools/page.py", f"tools/page.py --port {port + 2}")
-            .replace("--seconds 10", f"--seconds {PATIENCE}") for line in lines]
-
-
-def shell(command):
-    """A command of a person at this repository, with its own group of processes."""
-    child = subprocess.Popen(["bash", "-c", command], cwd=TOP, start_new_session=True, stdin=subprocess.DEVNULL,
-                             stdout=subprocess.PIPE, stderr=subprocess.PIPE)
-    STARTED.append(child)
-    return child
+    here = {"tools/find.py": f"tools/find.py --to 127.0.0.1:{port + 1} --seconds {seconds}", "./css": shlex.join(css),
+            "tools/page.py": f"tools/page.py --port {port + 2}", "--seconds 10": f"--seconds {PATIENCE}"}
+    return [re.sub("|".join(map(re.escape, here)), lambda found: here[found[0]], line) for line in lines]
 
 
 def line_of(file, mark):
@@ -401,34 +427,51 @@ def line_of(file, mark):
     for line in file:
         came += line
         if mark in line:
-            return line.decode(errors="replace")
+            return line.decode(errors="replace").strip()
     return f"(none of these) {came[-500:].decode(errors='replace')}"
+
+
+def finding(child, port):
+    out, errors = (told.decode() for told in child.communicate(timeout=PATIENCE))
+    return [("finds the television", out == f"Living room: ws://127.0.0.1:{port}/cii\n", (out + errors).strip())]
+
+
+def watching(child, _):
+    line = line_of(child.stdout, b'"ticks"')
+    return [("watches it: a report with ticks", '"event":"report"' in line, line)]
+
+
+def showing(child, port):
+    line = line_of(child.stderr, b"http://")
+    made = [("says where its page is", f"http://127.0.0.1:{port + 2}/" in line, line)]
+    if made[0][1]:
+        page = all_of(asked(port + 2, "GET / HTTP/1.1")).decode()
+        made += [("serves the page", page.startswith("HTTP/1.0 200 ") and "</html>" in page, page.partition("\r")[0])]
+        *_, last = events(asked(port + 2, "GET /lines HTTP/1.1"), PATIENCE,
+                          lambda found: found and re.search('"ticks"|"ended": true', found[-1][2])) or [("", "", "")]
+        made += [("and hands a report with ticks to it", '"ticks"' in last[2], last[2])]
+    return made
 
 
 def trial(css, port):
     """Find, watch, page, as GUIDE shows them, with announce.py in the place of a set."""
-    told = commands(css, port)
-    check("GUIDE has three commands", len(told) == 3 and ["find.py" in line for line in told] == [True] * 3, told)
     words = [*css, "tv", "--relative", "--port", str(port), "--seconds", "600"]
     with open(TOP / "examples" / "evening.script", "rb") as script:
-        STARTED.append(subprocess.Popen(words, stdin=script))
-    url = f"ws://127.0.0.1:{port}/cii"
-    set_ = Announced(f"127.0.0.1:{port + 1}", "--cii", url, "--name", "Living room")
-    finds = shell(told[0])
-    out, errors = finds.communicate(timeout=PATIENCE)
-    check("the first one finds the television", out.decode() == f"Living room: {url}\n", (set_.said, out, errors))
-    watches = shell(told[1])
-    line = line_of(watches.stdout, b'"ticks"')
-    check("the second one watches it: a report with ticks", '"event":"report"' in line, line[-300:])
-    stop(watches)
-    shows = shell(told[2])
-    line = line_of(shows.stderr, b"http://")
-    check("the third one says where its page is", f"http://127.0.0.1:{port + 2}/" in line, line)
-    page = all_of(asked(port + 2, "GET / HTTP/1.1"))
-    check("the page is there", page.startswith(b"HTTP/1.0 200 ") and b"</html>" in page, page[:200])
-    lines = events(asked(port + 2, "GET /lines HTTP/1.1"), PATIENCE, lambda found: found and '"ticks"' in found[-1][2])
-    check("and is handed a report with ticks", bool(lines) and '"ticks"' in lines[-1][2], lines[-1:])
-    stop(shows)
+        STARTED.append(subprocess.Popen(words, stdin=script, start_new_session=True))
+    Announced(f"127.0.0.1:{port + 1}", "--cii", f"ws://127.0.0.1:{port}/cii", "--name", "Living room")
+    check("GUIDE has three commands", len(commands(css, port, 4)) == 3)
+    for number, judge in enumerate((finding, watching, showing)):
+        for seconds in (4, 15, 45):  # A busy machine may need more of them.
+            command = commands(css, port, seconds)[number]
+            child = subprocess.Popen(["bash", "-c", command], cwd=TOP, start_new_session=True, stdin=subprocess.DEVNULL,
+                                     stdout=subprocess.PIPE, stderr=subprocess.PIPE)
+            STARTED.append(child)
+            made = judge(child, port)
+            stop(child)
+            if all(holds for _, holds, _ in made):
+                break
+        for name, holds, told in made:
+            check(f"command {number + 1} {name}", holds, told)
 
 
 def stop(child):
@@ -453,7 +496,7 @@ def main(words):
     finally:
         for child in STARTED:
             if child.poll() is None:
-                stop(child) if os.getpgid(child.pid) == child.pid else child.kill()
+                stop(child)
     return check.end()
 
 

@@ -75,6 +75,13 @@ class Handler(http.server.BaseHTTPRequestHandler):
         self.wfile.write(said or b"")
 
 
+def hang_up(conn):
+    try:
+        conn.shutdown(socket.SHUT_RDWR)
+    except OSError:
+        pass  # It is over.
+
+
 class Server(http.server.ThreadingHTTPServer):
     """Serves the description of a set, and that of its application."""
 
@@ -100,9 +107,12 @@ class Server(http.server.ThreadingHTTPServer):
             self.shutdown_request(request)
 
     def process_request_thread(self, request, client_address):
+        late = threading.Timer(PATIENCE, hang_up, [request])
+        late.start()
         try:
             super().process_request_thread(request, client_address)
         finally:
+            late.cancel()
             self.rooms.release()
 
     def handle_error(self, *_):

@@ -135,7 +135,11 @@ def look(sender, said, end):
     if not applications:
         raise Skipped(f"{name} tells no Application-URL, so it has no DIAL")
     port, path = place(applications, "http", sender, "Application-URL")
-    url = element(got(sender, port, path.rstrip("/") + "/HbbTV", end)[1], "X_HbbTV_InterDevSyncURL")
+    try:
+        _, text = got(sender, port, path.rstrip("/") + "/HbbTV", end)
+    except Skipped as why:
+        raise Skipped(f"{name}: {why}") from why
+    url = element(text, "X_HbbTV_InterDevSyncURL")
     if not url:
         raise Skipped(f"{name} has HbbTV, but tells no X_HbbTV_InterDevSyncURL: is a broadcast on that has CSS?")
     place(url, "ws", sender, "X_HbbTV_InterDevSyncURL")
