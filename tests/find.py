@@ -223,8 +223,11 @@ class Network:
 
 def find(*words, encoding="utf-8"):
     """The status of a run, and what it wrote on both streams."""
-    done = subprocess.run([sys.executable, FIND, *words], capture_output=True, timeout=PATIENCE, check=False,
-                          env={**os.environ, "PYTHONIOENCODING": encoding})
+    try:
+        done = subprocess.run([sys.executable, FIND, *words], capture_output=True, timeout=PATIENCE, check=False,
+                              env={**os.environ, "PYTHONIOENCODING": encoding})
+    except subprocess.TimeoutExpired:
+        return None, "", "it hung"
     return done.returncode, done.stdout.decode(encoding), done.stderr.decode(encoding)
 
 

@@ -191,7 +191,7 @@ def sets(found):
             skipped[f"{sender}: {why}"] = None
         except TimeoutError:
             skipped[f"{sender}: it takes too long"] = None
-        except (OSError, ValueError, http.client.HTTPException) as fault:
+        except Exception as fault:  # Whatever a set says, the others are told.
             skipped[f"{sender}: {shown(str(fault) or type(fault).__name__)}"] = None
     return sorted((name, url) for url, name in names.items()), skipped
 
