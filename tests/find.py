@@ -92,6 +92,7 @@ BAD = [
     ("its LOCATION is of another host: http://localhost:80/", answered("HERE/d.xml", "localhost:80/")),
     ("its LOCATION is no URL: http://HERE@AWAY/d.xml", answered("HERE", "HERE@AWAY")),
     ("its LOCATION is no URL: http://HERE0000/d.xml", answered("HERE", "HERE0000")),
+    ("its LOCATION is no URL: http://HOST:65536/d.xml", answered("HERE", "HOST:65536")),
     ("its LOCATION is no URL: ?]0;title??[2J", answered("http://HERE/d.xml", ESCAPES)),
     ("its LOCATION isn't http: https://HERE/d.xml", answered("http:", "https:")),
     ("its LOCATION isn't http: file://HOST/etc/passwd", answered("http://HERE/d.xml", "file://HOST/etc/passwd")),
@@ -365,13 +366,20 @@ def searched(tv, port):
                      SEARCH, SEARCH.replace(SERVICE, "ssdp:all")):
             asks.sendto(said.encode(), ("127.0.0.1", port))
         answers = [asks.recvfrom(4096) for _ in range(2)]
+        begun = time.monotonic()
+        for _ in range(11):
+            asks.sendto(SEARCH.encode(), ("127.0.0.1", port))
+        answers += [asks.recvfrom(4096) for _ in range(11)]
+        took = time.monotonic() - begun
         asks.settimeout(1)
         try:
             answers.append(asks.recvfrom(4096))
         except TimeoutError:
             pass
     head, _, lines = answers[0][0].decode().partition("\r\n")
-    check("it answers two of these searches, alike", len(answers) == 2 and answers[0] == answers[1], len(answers))
+    check("it answers the searches for it alone, and all alike", len(answers) == 13 and len(set(answers)) == 1,
+          len(answers))
+    check("not quicker than twenty a second", took >= 0.5, f"ten in {took:.2f} s")
     check("by its place", answers[0][1] == ("127.0.0.1", port), answers[0][1])
     check("and with its LOCATION", head == "HTTP/1.1 200 OK" and f"\r\nLOCATION: {tv.url}\r\n" in lines
           and f"\r\nST: {SERVICE}\r\n" in lines and lines.endswith(f"::{SERVICE}\r\n\r\n"), tv.url)

@@ -4,8 +4,8 @@
     css tv --host 192.168.1.5 ..          the television, whose CSS-CII is at port 6677
     %(prog)s --interface 192.168.1.5
 
-It does what a set of HbbTV does for DIAL: it answers each search in its network with the URL of its description, which
-tells where its application HbbTV is, and that tells the URL of CSS-CII. It goes on until it is ended.
+It does what a set of HbbTV does for DIAL. It answers each search in its network with the URL of its description. That
+says where its application HbbTV is, which tells the URL of CSS-CII. It goes on until it is ended.
 """
 import argparse
 import html

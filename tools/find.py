@@ -4,9 +4,9 @@
     %(prog)s          all of them, one a line
     %(prog)s --one    the URL of one, alone:  css watch --cii "$(%(prog)s --one)"
 
-It asks as companions of HbbTV do, by DIAL: first the network, then each set that answers for its description, and at
-last for its application HbbTV, which tells the URL as X_HbbTV_InterDevSyncURL. What isn't in order is skipped, with a
-word on standard error. The status is 1 where none was found.
+It asks as companions of HbbTV do, by DIAL. Each set that answers has a description, which says where its application
+HbbTV is. That one tells the URL, as X_HbbTV_InterDevSyncURL. What isn't in order is skipped, with a word on standard
+error. The status is 1 where none was found.
 """
 import argparse
 import concurrent.futures
