@@ -401,7 +401,7 @@ def announced(port):
     check("its place is its own", second.child.wait(PATIENCE) == 1 and "in use" in second.said, second.said)
     for words in (["--cii", "ws://127.0.0.2:1/"], ["--interface", "127.0.0.2"], ["--cii", "wss://127.0.0.1:1/"],
                   ["--cii", "ws://tv:6677/cii"], ["--name", "\x1b"], ["--name", ""]):
-        other = Announced(f"127.0.0.1:{port + 1}", *words)
+        other = Announced(f"127.0.0.1:{port + 1}", "--seconds", "1", *words)
         said = other.child.stderr.read().decode().strip().rpartition("error: ")[2]
         check(f"refused: {words}", other.child.wait(PATIENCE) == 2, said)
     brief = Announced(f"127.0.0.1:{port + 1}", "--seconds", "1")
