@@ -81,6 +81,8 @@ INPUTS = [
     ("replay", "css-schedule 9 plain 0 -20 0 0 a -\n", 1, "word 2 may be 1 or 2, and is 9"),
     ("replay", "css-schedule 1 plan 0 -20 0 0 a -\n", 1, "word 3 may be follow or plain, and is plan"),
     ("replay", "css-schedule 2 plain 0 -20 17\n", 1, "word 6 may be a number from 1 to 16, and is 17"),
+    ("replay", "css-schedule 2 plain 0 -20 2\n", 2, "line 2 has to be: companion 1 EL PL SELECTOR STEM"),
+    ("replay", "css-schedule 2 plain 0 -20 2\ncompanion 1 0 0 a -\n0 0\n", 3, "line 3 has to be: companion 2"),
     ("replay", "css-schedule 2 plain 0 -20 1\ncompanion 1 0 x a -\n", 2, "word 4 may be a number .*, and is x"),
     ("replay", "css-schedule 2 plain 0 -20 1\ncompanion 1 0 0 a -\n5 5 1 5 ask x\n", 3, "word 6 may be .*, and is x"),
     ("replay", SCHEDULE[:-1] + "\r\n", 1, "carriage return"),

@@ -132,6 +132,7 @@ fn main(rt: HostRuntime) -> ExitCode {
             dial: outside.last_dial_failure(),
             wrong_answer: outside.wrong_answer(),
             line: refused_line(&status, &source),
+            first_line: source.line(1),
             first_line_returned: source.first_line_returned(),
             course: course_of(outside.seen()),
         };

@@ -25,28 +25,39 @@ const DIALLED: Course<'static> = Course {
 /// The words, the refused line and the last CSS-CII text of a run.
 type Told = (&'static str, &'static str, &'static str);
 
-/// What helps after a status of a run that was told this: nothing, or a line of these words.
-fn check_hint(rt: &impl Abort, alloc: Global, status: &Status, told: &Told, helps: &str) {
-    let (line, refused, state) = told;
-    let words = words_of(rt, alloc, line);
-    let asked = Asked {
-        words: &words,
+/// What is known of a run with these words that was told this.
+fn asked_of<'a>(words: &'a [String], told: &Told) -> Asked<'a> {
+    let (_, refused, state) = *told;
+    Asked {
+        words,
         dial: Some(Failure::HttpStatus(404)),
         wrong_answer: None,
         line: Some(refused.as_bytes()),
+        first_line: None,
         first_line_returned: false,
         course: Course {
             state: state.as_bytes(),
             ..DIALLED
         },
-    };
-    match hint(alloc, status, &asked) {
-        None => check(rt, b"", helps.as_bytes(), line),
+    }
+}
+
+/// What helps after a status: nothing, or a line of these words.
+fn check_helps(rt: &impl Abort, alloc: Global, status: &Status, asked: &Asked<'_>, helps: &str) {
+    match hint(alloc, status, asked) {
+        None => check(rt, b"", helps.as_bytes(), helps),
         Some(hint) => {
             let wanted = format!(in alloc; "css: hint: {helps}\n").expect(rt, NO_MEMORY);
-            check(rt, hint.bytes(), wanted.as_bytes(), line);
+            check(rt, hint.bytes(), wanted.as_bytes(), helps);
         }
     }
+}
+
+/// What helps after a status of a run that was told this.
+fn check_hint(rt: &impl Abort, alloc: Global, status: &Status, told: &Told, helps: &str) {
+    let (line, ..) = told;
+    let words = words_of(rt, alloc, line);
+    check_helps(rt, alloc, status, &asked_of(&words, told), helps);
 }
 
 fn check_all(rt: &impl Abort, alloc: Global, rows: &[(Status, Told, &str)]) {
@@ -94,6 +105,33 @@ const HINTS: [(Status, Told, &str); 23] = [
     (Status::NoInterval { reports: 9 }, ("watch", "", ""),
         "no report had ticks: the cause and the detail of each report line say what was missing"),
 ];
+
+/// The lines behind the header of a schedule of two companions: the number of a refused one, what it is, and the hint.
+#[rattlefmt::skip]
+const COMPANIONS: [(u64, &str, &str); 5] = [
+    (2, "", "line 2 has to be: companion 1 EL PL SELECTOR STEM"),
+    (3, "0 0 1 0 wall 0", "line 3 has to be: companion 2 EL PL SELECTOR STEM"),
+    (2, "companion 2 0 0 a -", "line 2 has to be: companion 1 EL PL SELECTOR STEM"),
+    (2, "companion 1 x 0 a -", "word 3 may be a number from 0 to 2560000, and is x"),
+    (4, "0 0 1 0 wall", "word 6 is missing; it may be a number from 0 to 4294967295999999999"),
+];
+
+/// A schedule whose companions aren't declared is told which line is missing.
+#[test]
+fn a_missing_companion_is_told(rt: HostRuntime) {
+    let words = words_of(&rt, rt.alloc(), "replay");
+    for (number, line, helps) in COMPANIONS.as_slice() {
+        let refused = Status::BadLine {
+            line: *number,
+            why: LineWhy::Form,
+        };
+        let asked = Asked {
+            first_line: Some(b"css-schedule 2 plain 0 -20 2"),
+            ..asked_of(&words, &("replay", line, ""))
+        };
+        check_helps(&rt, rt.alloc(), &refused, &asked, helps);
+    }
+}
 
 #[test]
 fn each_status_has_its_hint(rt: HostRuntime) {

@@ -12,6 +12,8 @@ pub struct Asked<'a> {
     pub wrong_answer: Option<&'a str>,
     /// The line of the input that the status refuses, without its line feed, where it is known.
     pub line: Option<&'a [u8]>,
+    /// Line 1 of the input, without its line feed, where it is still kept.
+    pub first_line: Option<&'a [u8]>,
     /// Whether line 1 of the input ended with a carriage return.
     pub first_line_returned: bool,
     /// What the run has seen of its television.

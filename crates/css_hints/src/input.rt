@@ -5,6 +5,7 @@ use crate::asked::Asked;
 use crate::grammar::Grammar;
 use crate::options::command_in;
 use crate::walk::first_misfit;
+use css_num::whole_number;
 use css_replay::LineWhy;
 use css_schedule::PlayerFault;
 use std::alloc::Global;
@@ -113,6 +114,41 @@ fn bad_form(
     String::from_str(alloc, any_line).ok()
 }
 
+/// Which companion's line the one with this number is, where line 1 is the header of a schedule of version 2.
+fn companion_at(first_line: &str, number: u64) -> Option<u64> {
+    let count = first_line
+        .strip_prefix("css-schedule 2 ")?
+        .split(' ')
+        .nth(3)?;
+    let count = whole_number(count.as_bytes(), u64::MAX)?;
+    let companion = number.checked_sub(1)?;
+    if (1..=count).contains(&companion) {
+        Some(companion)
+    } else {
+        None
+    }
+}
+
+/// The line of a companion that has to stand at this number of a schedule.
+fn companion_line(alloc: Global, asked: &Asked<'_>, number: u64) -> Option<String> {
+    let companion = companion_at(str::from_utf8(asked.first_line?).ok()?, number)?;
+    format!(in alloc; "line {number} has to be: companion {companion} EL PL SELECTOR STEM").ok()
+}
+
+/// What is wrong with a line of a schedule behind its header. One that has to be a companion's and isn't begun as one
+/// has no word that is wrong: that line is missing.
+fn bad_schedule_line(alloc: Global, asked: &Asked<'_>, number: u64) -> Option<String> {
+    let Some(wanted) = companion_line(alloc, asked, number) else {
+        return bad_form(alloc, asked, Grammar::Schedule, number, line_of("replay"));
+    };
+    match asked.line {
+        Some(line) if line.starts_with(b"companion ") => {
+            bad_form(alloc, asked, Grammar::Schedule, number, wanted.as_str())
+        }
+        _ => Some(wanted),
+    }
+}
+
 /// What a line of the input that was refused has to be like.
 pub(crate) fn bad_line(
     alloc: Global,
@@ -127,6 +163,7 @@ pub(crate) fn bad_line(
         LineWhy::Form if line == 1 => {
             return bad_form(alloc, asked, grammar, line, header_of(command));
         }
+        LineWhy::Form if command == "replay" => return bad_schedule_line(alloc, asked, line),
         LineWhy::Form => return bad_form(alloc, asked, grammar, line, line_of(command)),
         LineWhy::Absent => return absent(alloc, command, asked.line),
         LineWhy::Player(fault) => limit(fault)?,
