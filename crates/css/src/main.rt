@@ -6,7 +6,8 @@ use css_drive::{Before, Nobody};
 use css_follow::{Cues, Meter};
 use css_hints::{Asked, Course, hint};
 use css_net::{
-    ChildSpawner, NetOutside, PatientWriter, Seen, StdSink, StdSource, take_standard_numbers,
+    ChildSpawner, NetOutside, NetRuntime, PatientWriter, Seen, StdSink, StdSource,
+    take_standard_numbers,
 };
 use css_outside::{Sink, write_all};
 use css_told::{TellingOutside, TellingSink, TellingSpawner};
@@ -79,6 +80,24 @@ fn course_of(seen: &Seen) -> Course<'_> {
     }
 }
 
+// What is known of a run beside its status, for a hint.
+fn asked_of<'a, N: NetRuntime, R: Read, C: Clock>(
+    words: &'a [String],
+    status: &Status,
+    outside: &'a NetOutside<N>,
+    source: &'a StdSource<'_, R, C>,
+) -> Asked<'a> {
+    Asked {
+        words,
+        dial: outside.last_dial_failure(),
+        wrong_answer: outside.wrong_answer(),
+        line: refused_line(status, source),
+        first_line: source.line(1),
+        first_line_returned: source.first_line_returned(),
+        course: course_of(outside.seen()),
+    }
+}
+
 // Writes the line that helps after a status, where one does.
 fn print_hint<K: Sink>(alloc: Global, status: &Status, asked: &Asked<'_>, sink: &mut K) {
     if let Some(line) = hint(alloc, status, asked) {
@@ -127,15 +146,7 @@ fn main(rt: HostRuntime) -> ExitCode {
     source.end_lines();
     let number = tell(rt.alloc(), &status, &mut errors).number;
     if let Ok(words) = &words {
-        let asked = Asked {
-            words,
-            dial: outside.last_dial_failure(),
-            wrong_answer: outside.wrong_answer(),
-            line: refused_line(&status, &source),
-            first_line: source.line(1),
-            first_line_returned: source.first_line_returned(),
-            course: course_of(outside.seen()),
-        };
+        let asked = asked_of(words, &status, &outside, &source);
         print_hint(rt.alloc(), &status, &asked, &mut errors);
     }
     ExitCode::from(number)
