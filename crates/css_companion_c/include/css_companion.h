@@ -6,9 +6,10 @@
  * PROVED of every call, for every argument: it reads and writes nothing but what is pointed at, it ends, it answers
  * the code that is said here, and after 1 to 15 the companion is as before. What a call would have written where it
  * answers 0 is else as before too, but for *used. Of `wall`, `position`, `lead` and `when`: whatever datagrams were
- * lost, repeated or reordered, while both oscillators keep their declared error and precision, the interval contains
- * the truth. A snapshot tells the position that its companion would have told when it was taken. Up to the reading that
- * `until` tells, `wall` is no wider than was asked.
+ * lost, repeated or reordered, while both oscillators keep their declared error and precision, and each accepted
+ * response tells truly of an exchange with the television, the interval contains the truth. A snapshot tells the
+ * position that its companion would have told when it was taken. Up to the reading that `until` tells, `wall` is no
+ * wider than was asked, while the age is the same.
  *
  * TRUSTED, since no prover sees your code:
  *   - this header fits the library; pointers point to what their types say, and a pointer with length 0 may be NULL;
@@ -57,7 +58,8 @@ enum css_code {
     /* 1 to 15: nothing has changed */
     CSS_MEMORY = 1,   /* malloc refused; try again */
     CSS_RANGE = 2,    /* a number or a length is out of range */
-    CSS_EARLY = 3,    /* the reading is below an earlier one, or after a sleep not above all that were asked at */
+    CSS_EARLY = 3,    /* the reading is below that of an `ask`, or of a `land` that answered 0 or CSS_IMPOSSIBLE, or
+                       * after a sleep not above all that were asked at. No other call raises the least reading */
     CSS_CLOSED = 4,   /* there is no companion behind the handle */
     CSS_NO_ROOM = 5,  /* the buffer is too short: *used says what is needed */
     CSS_TOO_WIDE = 6, /* the interval doesn't fit 64 bits */
@@ -153,7 +155,7 @@ uint32_t css_companion_version(void);
  * the own readings, in ns, at most 10^9. Where *c has a companion, it is freed once the new one is made. */
 uint32_t css_companion_new(css_companion *c, const uint8_t *selector, size_t selector_len,
                            const uint8_t *stem, size_t stem_len, uint32_t error, uint64_t precision);
-/* Free twice is fine. After it each call answers CSS_CLOSED. */
+/* Free twice is fine. After it each call that needs a companion answers CSS_CLOSED. */
 void css_companion_free(css_companion *c);
 /* The machine slept: all requests and responses are forgotten, and nothing else. */
 uint32_t css_companion_slept(css_companion *c);
@@ -185,8 +187,9 @@ uint32_t css_companion_presentation(const css_bound *earliest, const css_bound *
 
 /* ---- what it is for
  * A number that rises with each call that may change what wall, position, lead and when answer for the same reading:
- * new, slept, land, cii, setup, control and ts_closed, where they answer 0 or refuse what they are handed. While it is
- * the same, an answer that you have is still the answer; only the readings that may be handed rise. */
+ * new, slept, land, cii, setup, control and ts_closed, where they answer 0 or refuse a datagram or a text. While it is
+ * the same, an answer that you have is still the answer at each reading that may be handed. `ask` raises the least of
+ * these, and `when` and `until` tell readings from there on. `free` leaves the age, and the calls answer CSS_CLOSED. */
 uint64_t css_companion_age(const css_companion *c);
 uint32_t css_companion_position(css_companion *c, uint64_t reading, css_position *position);
 /* By how many ns of the timeline somebody at the beginning of `tick` is ahead of the television; below 0 it is behind.
@@ -207,7 +210,7 @@ uint32_t css_companion_until(css_companion *c, uint64_t width, uint64_t *reading
 uint32_t css_companion_snapshot(css_companion *c, css_snapshot *snapshot);
 /* What css_companion_position tells of the companion as it was. It goes by the numbers alone, so any thread may call it
  * at any time, also once the companion is freed. Of numbers that css_companion_snapshot didn't fill it answers
- * CSS_RANGE, or the position that they show. */
+ * CSS_RANGE, CSS_EARLY, CSS_NO_ANSWER or CSS_TOO_WIDE, or 0 and the position that they show. */
 uint32_t css_snapshot_position(const css_snapshot *snapshot, uint64_t reading, css_position *position);
 /* The line of a report, as `css companion` prints it. */
 uint32_t css_companion_report(css_companion *c, uint64_t number, uint64_t reading,
