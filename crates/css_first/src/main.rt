@@ -1,5 +1,5 @@
 //! Replays the schedule on standard input, as `css replay` does, and reads no words. It stands on what a replay needs
-//! and on nothing of the network, so it is proved much sooner than the whole program: a first `./css replay` is
+//! and on no sockets, so it is proved much sooner than the whole program: a first `./css replay` is
 //! answered by it while that isn't built yet. It tells the status, and no hint after it.
 #![tactic(auto)]
 

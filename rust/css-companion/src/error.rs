@@ -7,7 +7,8 @@ pub enum Refusal {
     Memory,
     /// A number or a length is out of range.
     Range,
-    /// The reading is below an earlier one, or after a sleep not above all that were asked at.
+    /// The reading is below that of a request or of a response that landed, or after a sleep not above all that were
+    /// asked at.
     Early,
     /// The interval doesn't fit 64 bits.
     TooWide,

@@ -221,8 +221,8 @@ impl Companion {
         told(unsafe { ffi::css_companion_ts_closed(&mut self.handle) })
     }
 
-    /// A number that rises with each call that may change what is answered for the same reading. While it is the same,
-    /// an answer that you have is still the answer.
+    /// A number that rises with each call that takes something in by which the answer for the same reading may be
+    /// another. While it is the same, an answer that you have is still the answer at each reading that may be handed.
     pub fn age(&self) -> u64 {
         // SAFETY: the handle is what the last call left, and it is only read.
         unsafe { ffi::css_companion_age(&self.handle) }
