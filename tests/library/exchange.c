@@ -42,10 +42,12 @@ static void wall_clock(css_companion *c) {
     IS(css_companion_snapshot(c, &copy), CSS_NO_ANSWER);
     IS(css_companion_ask(c, 1000, request), CSS_DONE);
     IS(memcmp(request + 8, answer + 8, 8) != 0, 0);
-    IS(css_companion_land(c, answer, 31, 1600), CSS_UNDECODABLE);
+    IS(css_companion_land(c, answer, 31, 9000), CSS_UNDECODABLE); /* it raises no least reading */
     IS(css_companion_land(c, NULL, 0, 1600), CSS_UNDECODABLE);
     IS(css_companion_land(c, request, 32, 1600), CSS_NOT_AN_ANSWER);
     IS(css_companion_land(c, answer, 32, 1600), CSS_DONE);
+    IS(css_companion_wall(c, 9000, &wall), CSS_DONE); /* nor does this */
+    IS(css_companion_wall(c, 1599, &wall), CSS_EARLY);
     IS(css_companion_wall(c, 1600, &wall), CSS_DONE);
     IS(wall.lo == 5197 && wall.hi == 5603, 1);
     IS(css_companion_ask(c, 5, request), CSS_EARLY);
