@@ -1,6 +1,6 @@
 //! Replays the schedule on standard input, as `css replay` does, and reads no words. It stands on what a replay needs
-//! and on no sockets, so it is proved much sooner than the whole program: a first `./css replay` is answered by it while
-//! that isn't built yet. It tells the status, and no hint after it.
+//! and on no sockets, so it is proved much sooner than the whole program: a first `./css replay` is answered by it
+//! while that isn't built yet. It tells the status, and no hint after it.
 #![tactic(auto)]
 
 use css_devices::{PatientWriter, StdSink, StdSource, take_standard_numbers};
