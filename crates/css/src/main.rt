@@ -4,7 +4,7 @@
 use css_app::{Status, run, tell};
 use css_drive::{Before, Nobody};
 use css_follow::{Cues, Meter};
-use css_hints::{Asked, Course, hint};
+use css_hints::{Asked, Course, hint, waiting};
 use css_net::{
     ChildSpawner, NetOutside, NetRuntime, PatientWriter, Seen, StdSink, StdSource,
     take_standard_numbers,
@@ -17,10 +17,6 @@ use std::io::{Error, ErrorKind, IsTerminal, Read};
 use std::process::ExitCode;
 use std::time::Clock;
 use std::{env, io};
-
-// What a companion at a terminal waits for.
-const SHEET_WANTED: &str =
-    "css: companion reads a cue sheet from standard input until its end (< /dev/null for none)\n";
 
 // The words after the program's name.
 fn words<R: Env + AllocGlobal>(rt: &R) -> io::Result<Vec<String>> {
@@ -39,20 +35,13 @@ fn without_words(error: &Error) -> Status {
     }
 }
 
-// Whether the words are those of a companion that reads a cue sheet, if they are those of a command.
-fn asks_for_sheet(words: &[String]) -> bool {
-    match words.split_first() {
-        Some((name, rest)) => name.as_str() == "companion"
-            && !rest.iter().any(|word| word.as_str() == "--record"),
-        None => false,
-    }
-}
-
-// Tells a person at a terminal what a companion waits for.
-fn tell_of_sheet<K: Sink>(rt: &HostRuntime, words: &[String], errors: &mut K) {
-    if asks_for_sheet(words) && rt.stdin().is_terminal() {
-        // A person who can't be told this can type a sheet all the same.
-        let _ = write_all(errors, SHEET_WANTED.as_bytes());
+// Tells a person at a terminal what a command waits for.
+fn tell_of_input<K: Sink>(rt: &HostRuntime, words: &[String], errors: &mut K) {
+    if rt.stdin().is_terminal() {
+        if let Some(line) = waiting(rt.alloc(), words) {
+            // A person who can't be told this can type the input all the same.
+            let _ = write_all(errors, line.bytes());
+        }
     }
 }
 
@@ -128,7 +117,7 @@ fn main(rt: HostRuntime) -> ExitCode {
     let words = words(&rt);
     let status = match &words {
         Ok(words) => {
-            tell_of_sheet(&rt, words, &mut errors);
+            tell_of_input(&rt, words, &mut errors);
             run(
                 rt.alloc(),
                 words,

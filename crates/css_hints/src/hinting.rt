@@ -49,5 +49,6 @@ pub fn hint(alloc: Global, status: &Status, asked: &Asked<'_>) -> Option<Text>
         return None;
     }
     let words = words_after(alloc, status, asked)?;
-    line_of(alloc, words.as_str())
+    let line = format!(in alloc; "css: hint: {words}").ok()?;
+    line_of(alloc, line.as_str())
 }

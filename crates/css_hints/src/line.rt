@@ -62,7 +62,6 @@ fn cut(alloc: Global, bytes: &[u8]) -> Option<Text>
 pub(crate) fn line_of(alloc: Global, words: &str) -> Option<Text>
     ensures { IfSome result IsHintLine }
 {
-    let words = format!(in alloc; "css: hint: {words}").ok()?;
     let mut line = cut(alloc, words.as_bytes())?;
     line.push(b"\n").ok()?;
     Some(line)
