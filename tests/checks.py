@@ -1,6 +1,7 @@
 """What the scripts of this folder share: the program that they try, their ports, and how their checks are told."""
 import os
 import pathlib
+import shutil
 import socket
 import subprocess
 
@@ -20,6 +21,25 @@ def css(named=None):
     if not named:
         subprocess.run([TOP / "css", "replay"], input=b"css-schedule 1 plain 0 -30 0 0 x -\n", check=True)
     return named or str(TOP / "crates" / "css" / "out" / "proved" / "css")
+
+
+def without_kit(room, program=None):
+    """A copy of ./css with what it calls and nothing to build, and the environment of a machine without the kit. This
+    program counts there as the proved one."""
+    top, words = room / "top", room / "commands"
+    for name in ("docs", "tools", "examples"):
+        shutil.copytree(TOP / name, top / name, ignore=shutil.ignore_patterns("__pycache__"))
+    for name in ("css", "crates.txt"):
+        shutil.copy2(TOP / name, top / name)
+    place = top / "crates" / "css" / "out" / "proved"
+    place.mkdir(parents=True)
+    if program:
+        shutil.copy(program, place / "css")
+    words.mkdir()
+    for name in ("awk", "cat", "dirname", "find", "git", "head", "python3", "readlink", "sh"):
+        if shutil.which(name):
+            (words / name).symlink_to(shutil.which(name))
+    return top, {**os.environ, "PATH": str(words), "CSS": ""}
 
 
 def ports():
