@@ -1,4 +1,5 @@
-"""Each status that the program can end with: its status line, which stays as it is, and the hint that may follow."""
+"""Each status that the program can end with: its status line, which stays as it is, and the hint that may follow. The
+hints of words that are those of no command stand in words.py."""
 import os, re, subprocess, threading
 
 from live_edge import Clock, Listener, closed_port, dial_soon, greet, hold, reset, state, stop, teller
@@ -29,23 +30,6 @@ def check_end(check, name, child, status, line, hint):
     hints = lines[1:]
     right = len(hints) < 2 and all(is_hint(it) for it in hints) and (hint is None or re.search(hint, " ".join(hints)))
     check(f"{name}: its hint", bool(right), hints)
-
-
-def words(check, program):
-    """Words of no command."""
-    for text, hint in (
-            ("", None), ("reply", "replay"), ("--nonsense", None), ("tv --prot 1", "--prot"), ("tv --port", "--port"),
-            ("tv --port 80", "1024"), ("tv --port 1 --port 2", "--port"), ("tv --seconds 1 --turns 5", "--seconds"),
-            ("tv --turns x", "--turns: x isn't a whole number from 1 to 1000000"),
-            ("tv --precision=-x", "-x isn't a whole number from -128 to 30"),
-            ("tv --turns 0", "--turns: 0 isn't from 1 to 1000000"), ("tv --seconds 0", "31536000"),
-            ("tv --host ::1", "bracket"), ("companion", "--cii"),
-            ("companion --cii wss://h/cii", "encryption"), ("companion --cii http://h/cii", "ws:"),
-            ("companion --cii ws://h/cii --reports 0", "1000000"),
-            ("companion --cii ws://h/cii --earliest 1", "--latest"),
-            ("relay --relative --cii ws://h/cii", "--relative"), ("generate --seed 1", "--lines"),
-            ("tv extra", "extra"), ("\u00e4" * 100, r"no such command: (\?\?)+$")):
-        check_end(check, f"css {text}", start(program, text.split()), 1, "css: usage", hint)
 
 
 # The line that is refused behind a schedule's header, why, and what the hint says of it.
@@ -274,7 +258,6 @@ def departures(check, program, port):
 
 
 def statuses(port, program, check):
-    words(check, program)
     refused_lines(check, program)
     offline(check, program)
     sockets(check, program, port)

@@ -46,14 +46,18 @@ def answers(lines):
     return sorted(found, key=lambda answer: answer[0])
 
 
-def main():
+def main(words):
+    if words:
+        print(__doc__)
+        return 0 if words == ["--help"] else 2
     header, *lines = (line.split(" ") for line in sys.stdin.read().splitlines() or [""])
     if header[:2] != ["css-record", "1"] or len(header) != 6:
         sys.exit("tools/answers.py: this is no record")
     print(f"css-agree 1 {header[2]} {header[3]}")
     for counted, line in answers(lines):
         print(f"{line}\nat {counted}")
+    return 0
 
 
 if __name__ == "__main__":
-    main()
+    sys.exit(main(sys.argv[1:]))

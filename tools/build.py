@@ -238,6 +238,9 @@ def since(begun):
 
 
 def main(words):
+    if words == ["--help"]:
+        print(__doc__)
+        return
     begun = time.time()
     try:
         with alone():

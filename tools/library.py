@@ -66,7 +66,7 @@ def main(words):
     words = words[is_over_gate:]
     if len(words) != 1 or words[0].startswith("-"):
         print(__doc__)
-        return 2
+        return 0 if words == ["--help"] else 2
     folder = Path(os.path.abspath(words[0]))
     with alone(), tempfile.TemporaryDirectory(prefix="css-room-") as room:
         archive = Path(room) / f"lib{NAME}.a"
