@@ -10,6 +10,7 @@ libraries that `rt ci` left. What runs, side by side, and under valgrind where t
 - each allocation refused in turn;
 - random calls, under the address sanitizer instead;
 - the header in C++, and for an ARM machine;
+- each call once more, by the library of the Debian package;
 - the tests of the Rust package;
 - examples/follow and examples/player. They follow a television on loopback that is paused and sought, and whose TS
   session is closed and opened again: one by hand, or that of css where CSS, or $CSS, is a command that runs it.
@@ -28,11 +29,13 @@ from pathlib import Path
 
 sys.dont_write_bytecode = True
 import live_server
-from checks import Checks, ports
+from checks import TOP, Checks, ports
+
+sys.path.insert(0, str(TOP / "tools"))
+from package import pack_library
 
 live_server.OFFSET = 0
 
-TOP = Path(__file__).resolve().parent.parent
 TESTS, EXAMPLES = TOP / "tests" / "library", TOP / "examples"
 RANDOM_CALLS = "1000000"
 REPORTS = "60"
@@ -140,6 +143,18 @@ class Suite:
             if self.has(compiler, f"the header by {compiler}") and self.has(needed, f"the header by {compiler}"):
                 self.run(f"the header by {compiler}", [compiler, *words, *WARNINGS, "-fsyntax-only", header])
 
+    def packaged(self):
+        """The library of the Debian package, whose symbols of debugging are taken off."""
+        if not all(self.has(it, "the library's Debian package") for it in ("dpkg-deb", "strip")):
+            return
+        pack_library(self.room, self.room / "tree", self.library)
+        place, program = self.room / "unpacked", self.room / "by_package"
+        subprocess.run(["dpkg-deb", "-x", next(self.room.glob("*.deb")), place], check=True)
+        archive = next(place.rglob("libcss_companion.a"))
+        command = ["gcc", *WARNINGS, f"-I{place}/usr/include", "-o", program, TESTS / "exchange.c", archive]
+        subprocess.run(command, check=True)
+        self.run("each call and each misuse, by the Debian package", [program])
+
     def at_random(self):
         checked = self.built([TESTS / "random.c"], "-fsanitize=address,undefined")
         self.run(f"{RANDOM_CALLS} random calls", [checked, "1", RANDOM_CALLS])
@@ -179,7 +194,7 @@ class Suite:
 
     def all(self, css):
         """Makes all of these side by side."""
-        parts = [(self.in_c,), (self.at_random,), (self.application_in_c, css)]
+        parts = [(self.in_c,), (self.packaged,), (self.at_random,), (self.application_in_c, css)]
         if self.has("cargo", "the Rust package and its application"):
             parts += [(self.in_rust,), (self.application_in_rust, css)]
         threads = [threading.Thread(target=self.guarded, args=part) for part in parts]

@@ -211,7 +211,7 @@ def scripts(room):
           == (70, "css: to make Debian packages dpkg-deb is needed\n"), ran.stderr.strip())
     for word in ("--install", "--uninstall", "--library", "--deb"):
         ran = run([top / "css", word], env=env)
-        check(f"./css {word} without a folder", ran.returncode == 1 and "needs the folder" in ran.stderr, ran.stderr)
+        check(f"./css {word} without a folder", ran.returncode == 1 and "needs the folder" in ran.stderr)
 
 
 def tools():

@@ -153,6 +153,7 @@ def pack(folder, tree, package, about, **fields):
     documents = tree / "usr/share/doc" / package
     put(documents / "copyright", COPYRIGHT.format(**words).encode(), 0o644)
     put(documents / "changelog.gz", gzip.compress(CHANGES.format(**words).encode(), mtime=0), 0o644)
+    folder.mkdir(parents=True, exist_ok=True)
     files = sorted(path for path in tree.rglob("*") if path.is_file() and not path.is_symlink())
     architecture = told(["dpkg", "--print-architecture"])
     control = {"Package": package, "Version": version(), "Architecture": architecture, "Maintainer": maintainer(),
@@ -198,7 +199,6 @@ def pack_library(folder, tree, made):
 
 
 def make_packages(folder, program, made):
-    folder.mkdir(parents=True, exist_ok=True)
     with tempfile.TemporaryDirectory(prefix="css-deb-") as room:
         room = Path(room)
         if not made:
