@@ -114,7 +114,10 @@ def clean_root(root, program):
         (lists / name).mkdir(parents=True)
     architecture = run(["dpkg", "--print-architecture"]).stdout.strip()
     version = run(["dpkg-query", "-W", "-f", "${Version}", "libc6"]).stdout or "9:0"
-    (lists / "status").write_text("".join(STANZA.format(it, architecture, version) for it in ("libc6", "libc6-dev")))
+    here = ("libc6", "libc6-dev")
+    (lists / "status").write_text("".join(STANZA.format(it, architecture, version) for it in here))
+    for name in here:
+        (lists / "info" / f"{name}.list").write_text("")
 
 
 def usable(room, root):
@@ -138,8 +141,8 @@ def in_clean_root(room, debs, program):
     if run([*own, "chroot", root, "/none"], env=env).returncode not in (126, 127):
         check.skip("the packages in a clean root", "this user may not change its root")
         return
-    before = below(root)
-    ran = run([*own, "dpkg", f"--root={root}", "-i", *debs], env=env)
+    before, dpkg = below(root), [*own, "dpkg", f"--root={root}", f"--log={room / 'dpkg.log'}"]
+    ran = run([*dpkg, "-i", *debs], env=env)
     check("dpkg installs both in a clean root", ran.returncode == 0, ran.stderr.strip())
     check("the program replays there", replayed([*own, "chroot", root, "/usr/bin/css"]) == replayed([program]))
     helped = run([*own, "chroot", root, "/usr/bin/css", "--help"])
@@ -148,7 +151,7 @@ def in_clean_root(room, debs, program):
         helped = run([tool, "--help"])
         check(f"{tool.name} --help", helped.returncode == 0 and helped.stdout, helped.stderr.strip()[-99:])
     usable(room, root)
-    ran = run([*own, "dpkg", f"--root={root}", "--purge", *PACKAGES], env=env)
+    ran = run([*dpkg, "--purge", *PACKAGES], env=env)
     left = [path for path in below(root) if path not in before and not path.startswith("var/")]
     check("dpkg takes both away, and nothing is left", ran.returncode == 0 and not left, (ran.stderr.strip(), left))
 
