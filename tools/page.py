@@ -1,26 +1,34 @@
 #!/usr/bin/env python3
 """Shows a television live, out of the lines of `watch`: a page, and the lines themselves, on 127.0.0.1 alone.
 
-    ./css watch --cii URL | tools/page.py    the page is http://127.0.0.1:8070/
-    tools/page.py --replay FILE              saved lines, each when its reading is due; with --fast all at once
+    css watch --cii URL | css-page              the page is http://127.0.0.1:8070/
+    css-page --replay FILE                      saved lines, each when its reading is due; with --fast all at once
+    css watch .. | css-page --host 192.168.1.7  also for other machines of the network, such as a telephone
 
-examples/evening.lines has the lines of an evening.
+In a checkout these are ./css and tools/page.py, and examples/evening.lines has the lines of an evening. With --host the
+URL that is printed has a token, which is another one each time; who doesn't know it is served nothing.
 
-At /lines the lines come as server-sent events, each as it was read, with an id to go on from. An event of the name
-`page` comes between them: how old the last line is, in ms, and whether there will be more. Reading never waits for a
-page: the last lines are kept for all pages together, and a page that falls behind them is dropped, and connects again.
+At lines, beside the page, the lines come as server-sent events, each as it was read, with an id to go on from. An event
+of the name `page` comes between them: how old the last line is, in ms, and whether there will be more. Reading never
+waits for a page: the last lines are kept for all pages together, and a page that falls behind them is dropped, and
+connects again.
 """
 import argparse
 import base64
 import collections
 import hashlib
+import hmac
 import html
 import http.server
+import ipaddress
 import json
 import os
 import pathlib
 import re
+import secrets
 import signal
+import socket
+import socketserver
 import sys
 import threading
 import time
@@ -31,6 +39,8 @@ SECOND = 10**9
 GREATEST = 2**32 * SECOND
 LASTING = (("visit", None), ("state", None), ("control", None), ("dial", "CII"), ("dial", "WC"), ("dial", "TS"))
 RUN = os.urandom(6).hex()  # Parts the ids of this run from those of the one before.
+LETTERS = "abcdefghijkmnpqrstuvwxyz23456789"  # Those that nobody mistakes who types a token at a telephone.
+NAME = pathlib.Path(sys.argv[0]).name
 
 
 class Log:
@@ -119,12 +129,19 @@ def hold(older, kind, number, line):
         older[kind] = number, line
 
 
+def page_file():
+    """The page: beside this program in a checkout, and in ../share/css where it is installed."""
+    folder = pathlib.Path(__file__).resolve().parent
+    beside = folder / "page.html"
+    return beside if beside.is_file() else folder.parent / "share" / "css" / "page.html"
+
+
 def document(options):
     """The page, with what the lines don't tell, and the policy that it has no other script and asks nobody else."""
-    page = (pathlib.Path(__file__).parent / "page.html").read_text(encoding="utf-8")
-    for name, value in (("LOCAL_ERROR", options.local_error), ("LOCAL_PRECISION", options.local_precision),
-                        ("SELECTOR", options.selector)):
-        page = page.replace(name, html.escape(str(value)))
+    told = {"local-error": options.local_error, "local-precision": options.local_precision,
+            "selector": options.selector, "cii": options.cii, "names": json.dumps(dict(options.name))}
+    data = " ".join(f'data-{name}="{html.escape(str(value))}"' for name, value in told.items())
+    page = page_file().read_text(encoding="utf-8").replace("<body>", f"<body {data}>", 1)
     policy = "default-src 'none'; connect-src 'self'; img-src data:; base-uri 'none'; frame-ancestors 'none'"
     for name in ("script", "style"):
         inner = re.search(f"<{name}>(.*?)</{name}>", page, re.S)[1]
@@ -138,19 +155,51 @@ def event(number, line):
 
 class Handler(http.server.BaseHTTPRequestHandler):
     timeout = PATIENCE  # For each read and for each write.
+    server_version, sys_version = "css-page", ""
 
     def log_message(self, *_):
         pass
 
+    def handle(self):
+        """The whole head of a request has its time, also where it comes byte by byte."""
+        self.late = threading.Timer(PATIENCE, self.shut)
+        self.late.daemon = True
+        self.late.start()
+        try:
+            super().handle()
+        finally:
+            self.late.cancel()
+
+    def shut(self):
+        try:
+            self.connection.shutdown(socket.SHUT_RDWR)
+        except OSError:
+            pass  # It is gone already.
+
     def parse_request(self):
-        """A request that isn't GET, or that names another host, isn't heard further."""
-        if not super().parse_request():
+        """A request that isn't GET, or that names another host, or that another site's page makes, isn't heard
+        further. Browsers say whose page asks, in one or the other of two fields; a link to the page may be anywhere."""
+        parsed = super().parse_request()
+        self.late.cancel()
+        if not parsed:
             return False
         if self.command != "GET":
             return self.refuse(405, "GET alone", Allow="GET")
-        if self.headers.get_all("Host", []) not in [[host] for host in self.server.hosts]:
+        hosts = self.headers.get_all("Host", [])
+        if hosts not in [[host] for host in self.server.hosts]:
             return self.refuse(403, "this name isn't served")
+        site, kind = (self.headers.get(f"Sec-Fetch-{name}", "none") for name in ("Site", "Dest"))
+        is_link = kind == "document" and not self.is_at("lines")
+        if self.headers.get_all("Origin", []) not in ([], [f"http://{hosts[0]}"]) or (
+                site not in ("none", "same-origin") and not is_link):
+            return self.refuse(403, "other sites aren't served")
         return True
+
+    def is_at(self, name):
+        """Whether the path has the token, and this name behind it. How long it takes tells nothing of the token. The
+        page's own path may lack its last slash."""
+        path = self.path if name else f"{self.path.rstrip('/')}/"
+        return hmac.compare_digest(path.encode("latin-1"), f"{self.server.root}{name}".encode())
 
     def refuse(self, status, words, **headers):
         self.begin(status, "text/plain; charset=utf-8", **headers)
@@ -168,15 +217,15 @@ class Handler(http.server.BaseHTTPRequestHandler):
         self.end_headers()
 
     def do_GET(self):
-        if self.path == "/":
+        if self.is_at(""):
             page, policy = self.server.document
             self.begin(200, "text/html; charset=utf-8", **{"Content-Security-Policy": policy})
             self.wfile.write(page)
-        elif self.path == "/lines":
+        elif self.is_at("lines"):
             self.begin(200, "text/event-stream; charset=utf-8")
             self.lines(self.server.log)
         else:
-            self.refuse(404, "/ and /lines alone")
+            self.refuse(404, "nothing is here")
 
     def lines(self, log):
         """Hands the lines on, until the page is gone or too slow."""
@@ -194,14 +243,21 @@ class Handler(http.server.BaseHTTPRequestHandler):
             self.wfile.write(b"".join(events))
 
 
-class Server(http.server.ThreadingHTTPServer):
-    daemon_threads = True
+class Server(socketserver.ThreadingTCPServer):
+    """Not the HTTPServer of the library: that one looks up the name of its address, which may ask the network."""
+    daemon_threads = allow_reuse_address = True
 
-    def __init__(self, port, log, page):
+    def __init__(self, host, port, log, page):
+        """With a host all stands below a token of 80 bits; without one there is 127.0.0.1, which needs none."""
         self.log, self.document = log, page
-        self.hosts = [f"127.0.0.1:{port}", f"localhost:{port}"]
+        self.root = "/" if host is None else f"/{''.join(secrets.choice(LETTERS) for _ in range(16))}/"
+        if host and host.version == 6:
+            self.address_family, self.hosts = socket.AF_INET6, [f"[{host}]:{port}"]
+        else:
+            self.hosts = [f"{host}:{port}"] if host else [f"127.0.0.1:{port}", f"localhost:{port}"]
+        self.url = f"http://{self.hosts[0]}{self.root}"
         self.rooms = threading.BoundedSemaphore(CONNECTIONS)
-        super().__init__(("127.0.0.1", port), Handler)
+        super().__init__((str(host or "127.0.0.1"), port), Handler)
 
     def process_request(self, request, client_address):
         if self.rooms.acquire(blocking=False):
@@ -265,9 +321,33 @@ def ranged(low, high):
     return number
 
 
+def address(word):
+    """An address at which others reach this machine."""
+    try:
+        found = ipaddress.ip_address(word)
+    except ValueError:
+        raise argparse.ArgumentTypeError(f"{word} is no address, such as 192.168.1.7") from None
+    if found.is_unspecified or found.is_multicast or "%" in word:
+        raise argparse.ArgumentTypeError(f"{word} isn't the one address by which others reach this machine")
+    return found
+
+
+def named(word):
+    stem, is_there, name = word.partition("=")
+    if not is_there or not stem or not name:
+        raise argparse.ArgumentTypeError(f"{word} isn't STEM=NAME, such as dvb://233a.1004.1044=News")
+    return stem, name
+
+
 def options_of(words):
-    parser = argparse.ArgumentParser(description=__doc__, formatter_class=argparse.RawDescriptionHelpFormatter)
-    parser.add_argument("--port", type=ranged(1024, 65535), default=8070)
+    parser = argparse.ArgumentParser(prog=NAME, description=__doc__,
+                                     formatter_class=argparse.RawDescriptionHelpFormatter)
+    parser.add_argument("--host", type=address, metavar="ADDRESS", help="this address of this machine, with a token, "
+                        "in the place of 127.0.0.1; the network may read along, since it is http")
+    parser.add_argument("--port", type=ranged(1024, 65535), default=8070, help="default 8070")
+    parser.add_argument("--cii", metavar="URL", default="", help="as that of the watch, so that the page can name it")
+    parser.add_argument("--name", type=named, metavar="STEM=NAME", action="append", default=[],
+                        help="the name of the programmes whose content id begins so; the longest STEM counts")
     parser.add_argument("--local-error", type=ranged(0, 2_560_000), default=128_000, help="as that of the watch")
     parser.add_argument("--local-precision", type=ranged(0, SECOND), default=1000, help="as that of the watch")
     parser.add_argument("--selector", default="urn:dvb:css:timeline:pts", help="as that of the watch")
@@ -284,13 +364,13 @@ def main(words):
     log = Log()
     try:
         file = sys.stdin.buffer if options.replay is None else open(options.replay, "rb")
-        server = Server(options.port, log, document(options))
+        server = Server(options.host, options.port, log, document(options))
     except OSError as fault:
-        print(f"tools/page.py: {fault}", file=sys.stderr)
+        print(f"{NAME}: {fault}", file=sys.stderr)
         return 1
     serving = threading.Thread(target=server.serve_forever, daemon=True)
     serving.start()
-    print(f"tools/page.py: http://127.0.0.1:{options.port}/", file=sys.stderr, flush=True)
+    print(f"{NAME}: {server.url}", file=sys.stderr, flush=True)
     lines = whole_lines(file, log)
     for line in lines if options.replay is None or options.fast else paced(lines):
         log.add(line)
