@@ -19,11 +19,13 @@ import time
 
 from checks import Checks, ports, program
 from page_browser import CONTRAST, DESK, PHONE, Browser
-from page_due import due, matter, refused, right_position
+from page_due import due, matter, refused, right_position, sentence_of, times
+from page_looks import looked_at
 from page_server import Page, end_all, serving
 from page_source import Program, Simulated, Wrong
 from page_streams import streams
 from page_tv import SECOND
+from page_words import worded
 
 PORT = ports()
 SAVED = pathlib.Path(__file__).resolve().parent.parent / "examples" / "evening.lines"
@@ -50,8 +52,8 @@ def right_rows(browser, lines):
     answers = [line for line in lines if line["event"] == "answer"][-1:]
     for line in answers:
         trip = int(line["landed"]) - int(line["originate"]) - int(line["transmit"]) + int(line["receive"])
-        wanted = [f"{trip / 1e6:.3f}", f"{int(line['width']) / 1e6:.3f}"]
-        check("the last answer has its round trip and its width", browser.rows("answers")[0][1:3] == wanted, wanted)
+        wanted = f"{trip / 1e6:.3f}"
+        check("the last answer has its round trip", browser.rows("answers")[0][1] == wanted, wanted)
     wanted = "nothing was told in this visit"
     for line in lines:
         if line["event"] in ("visit", "state"):
@@ -77,7 +79,7 @@ class Feeder(threading.Thread):
 
 
 def live(browser, source, port):
-    page = Page(port)
+    page = Page(port, ["--cii", source.cii])
     browser.look(*DESK)
     check("the page opens", browser.open(page.url))
     feeder, seen = Feeder(source, page), []
@@ -92,6 +94,7 @@ def live(browser, source, port):
             inside.append(truth is None or low <= truth <= high)
         time.sleep(0.1)
     moments(seen, feeder.lines)
+    headlines(seen, feeder.lines, source.cii)
     check("the true position is in each interval", all(inside) and inside, f"{len(inside)} moments")
     browser.until(f"kept.lines === {len(feeder.lines)}")
     browser.settled()
@@ -114,17 +117,45 @@ def moments(seen, lines):
     paused = [moment for moment in seen if "0, paused" in moment["facts"]]
     ticks = {tuple(moment["now"].split()[3:]) for moment in paused}
     check("a pause is told, and its position stands still", paused and len(ticks) == 1, f"{len(paused)} moments")
+    shown = []
+    for moment in seen:
+        rate = due(lines[:moment["lines"]])[2]
+        if moment["now"]:
+            shown.append((times([int(tick) for tick in moment["now"].split()[3:]], rate), moment["position"]))
+    wrong = [pair for pair in shown if pair[0] != pair[1]]
+    check("it is shown as times, one where both ends are alike", shown and not wrong, wrong[:2] or shown[-1][1])
+
+
+def headlines(seen, lines, cii):
+    """The first line of each moment that was seen, by what the last report says is missing."""
     words = []
     for moment in seen:
         wanted = matter(lines[:moment["lines"]])
         if wanted:
+            begins = sentence(lines[:moment["lines"]], wanted[0], cii)
             lasts = (int(moment["reading"]) - wanted[1]) // SECOND
-            right = (moment["words"], moment["rest"]) == (wanted[0], f"since {lasts} s")
+            right = moment["words"].startswith(begins) and moment["rest"] == f"for {lasts} s"
             words.append((right and moment["level"] == "bad", f"{moment['words']} {moment['rest']}"))
     told = sorted({told for _, told in words})
     check("the line says what is the matter, and since when", len(told) > 2 and all(right for right, _ in words), told)
-    well = [moment for moment in seen if moment["level"] == "well"]
-    check("it says that all is well where it is", len(well) > 3, well and f"{well[-1]['words']} {well[-1]['rest']}")
+    well = {moment["words"] for moment in seen if moment["level"] == "well"}
+    check("it says whether it plays where all is well", well == {"Playing", "Paused"}, well)
+
+
+def sentence(lines, detail, cii):
+    """How the page says a detail, by the addresses and the dials of this visit."""
+    told, dials = {}, {}
+    for line in lines:
+        if line["event"] in ("visit", "state"):
+            told = line.get("state") or {}
+        if line["event"] == "visit":
+            dials = {}
+        if line["event"] == "dial":
+            dials[line["service"]] = line["outcome"]
+    service = detail.split()[0]
+    place = {"CII": cii, "WC": told.get("wcUrl"), "TS": told.get("tsUrl")}.get(service)
+    begins = {"open": "Connected to", None: "There is no connection to"}.get(dials.get(service), "Can't reach")
+    return f"{begins} {place}" if place else sentence_of(detail)
 
 
 # What `watch` says of each way in which the television is wrong.
@@ -188,8 +219,8 @@ def looks(browser, size, dark):
     told = browser.tell(CONTRAST)
     check(f"each text can be read {where}", told["contrast"] >= 4.5 and told["count"] > 150,
           f"{told['count']} texts, at least {told['contrast']:.2f} ({told['words'][:30]})")
-    wide = browser.tell("Math.max(...[...document.querySelectorAll('body, body *')].filter((one) => "
-                        "!one.closest('.rows > *')).map((one) => one.getBoundingClientRect().right))")
+    wide = browser.tell("Math.max(...[...document.querySelectorAll('body, body *')].map((one) => "
+                        "one.getBoundingClientRect().right))")
     check(f"nothing is wider than the window {where}", wide <= size[0], wide)
     light = browser.tell("getComputedStyle(document.body).backgroundColor")
     check(f"the page is so {where}", (int(re.findall(r"\d+", light)[0]) < 100) == dark, light)
@@ -229,9 +260,11 @@ def main(words):
             wrong(browser, Wrong(css, PORT + 20), PORT + 8)
         saved(browser, PORT + 2)
         streams(check, browser, PORT + 3)
+        looked_at(check, browser, PORT + 30)
+        worded(check, browser, PORT + 40)
         if options.picture:
             take_picture(browser, PORT + 9, options.picture)
-        elsewhere = [url for url in browser.asked if not re.match(rf"http://127\.0\.0\.1:{PORT // 100}\d\d/", url)]
+        elsewhere = [url for url in browser.asked if not re.match(rf"http://127\.0\.0\.[12]:{PORT // 100}\d\d/", url)]
         check("nothing is asked for elsewhere", not elsewhere, elsewhere or f"{len(browser.asked)} requests")
         check("no script failed", not browser.faults, browser.faults or "")
     finally:

@@ -20,8 +20,9 @@ DESK, PHONE = (1280, 900), (360, 740)
 SEEN = """(() => {
   const by = (id) => document.getElementById(id), { now } = by("position").dataset, { reading } = by("said").dataset;
   const lines = Number(/([\\d,]+) lines/.exec(by("link").textContent)[1].replaceAll(",", ""));
-  return { now, reading, lines, level: by("said").className, words: by("words").textContent,
-    rest: by("rest").textContent, facts: by("facts").textContent };
+  return { now, reading, lines, level: by("said").className.replace("whole", "").trim(),
+    words: by("words").textContent, rest: by("rest").textContent, position: by("position").textContent,
+    facts: by("facts").textContent };
 })()"""
 
 # Each text that is seen, with the contrast of its colour to what is behind it; the worst one of all.
@@ -143,7 +144,7 @@ class Browser:
 
     def settled(self):
         """Whether all of the page is drawn once more from now on."""
-        return self.until(f"drawn > {self.tell('performance.now()')}")
+        return self.until(f"drawn > {self.tell('changed = true, performance.now()')}")
 
     def look(self, width, height, dark=False):
         """The size of the window, and the scheme of colours."""
@@ -162,6 +163,10 @@ class Browser:
         for kind in ("rawKeyDown", "keyUp"):
             codes = {"Tab": 9, "ArrowDown": 40, "End": 35}
             self.call("Input.dispatchKeyEvent", type=kind, key=name, code=name, windowsVirtualKeyCode=codes[name])
+
+    def word(self, words):
+        """Whether the first line comes to be this one."""
+        return self.until(f"document.getElementById('words').textContent === {json.dumps(words)}")
 
     def picture(self, path):
         data = self.call("Page.captureScreenshot", format="png", captureBeyondViewport=True)["data"]

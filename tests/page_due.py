@@ -1,4 +1,5 @@
 """What the page has to show, by the lines alone: the position, what is the matter, and what was refused."""
+import fractions
 import re
 
 from page_tv import carried, rate_in, tick_at
@@ -36,6 +37,36 @@ def right_position(seen, lines):
         return not seen["now"] and report is None
     reading, *shown = map(int, seen["now"].split())
     return reading >= int(report["reading"]) and shown == position(report, control, rate, reading)
+
+
+def times(ticks, rate):
+    """The ends of an interval as times of day: rounded outwards, or one in the middle where it is below 1 ms."""
+    low, high = (fractions.Fraction(tick * rate["unitsPerTick"] * 1000, rate["unitsPerSecond"]) for tick in ticks)
+    ends = [low // 1, -(-high // 1)] if high - low >= 1 else [((low + high) / 2 + fractions.Fraction(1, 2)) // 1]
+    return " to ".join(time_of(end) for end in ends)
+
+
+def time_of(ms):
+    sign, ms = ("−" if ms < 0 else ""), abs(ms)
+    return f"{sign}{ms // 3600000}:{ms // 60000 % 60:02}:{ms // 1000 % 60:02}.{ms % 1000:03}"
+
+
+# What the page says of a detail, but for a service that isn't open.
+SENTENCES = {
+    "no wcUrl": "The television tells no address of its wall clock",
+    "no tsUrl": "The television tells no address of its timeline",
+    "nothing was asked": "The television's wall clock hasn't been asked yet",
+    "no text came": "The television hasn't told a control timestamp yet",
+}
+
+
+def sentence_of(detail):
+    """What the page says of a detail, but for a service that isn't open."""
+    count = re.fullmatch(r"no response to (\d+) requests", detail)
+    if count:
+        many = "request" if count[1] == "1" else "requests"
+        return f"The television's wall clock doesn't answer: no response to {count[1]} {many}"
+    return SENTENCES[detail]
 
 
 def matter(lines):

@@ -3,6 +3,7 @@ import json
 import os
 import pathlib
 import re
+import shutil
 import socket
 import subprocess
 import sys
@@ -16,12 +17,13 @@ STARTED = []
 class Page:
     """A run of tools/page.py on a port, fed by this program or by a file."""
 
-    def __init__(self, port, words=()):
-        self.port, self.url = port, f"http://127.0.0.1:{port}/"
-        self.child = subprocess.Popen([sys.executable, str(TOOL), "--port", str(port), *words], bufsize=0,
+    def __init__(self, port, words=(), tool=TOOL):
+        self.port = port
+        self.child = subprocess.Popen([sys.executable, str(tool), "--port", str(port), *words], bufsize=0,
                                       stdin=subprocess.PIPE, stderr=subprocess.PIPE)
         STARTED.append(self.child)
         self.said = self.child.stderr.readline().decode()
+        self.url = self.said.partition(": ")[2].strip()
 
     def feed(self, *lines):
         self.child.stdin.write("".join(line + "\n" for line in lines).encode())
@@ -41,13 +43,13 @@ def end_all():
             child.kill()
 
 
-def asked(port, head, host=None, room=None):
+def asked(port, head, host=None, room=None, address="127.0.0.1"):
     """A connection on which this head was sent; the port's own Host is put in, unless there is another."""
-    conn = socket.socket()
+    conn = socket.socket(socket.AF_INET6 if ":" in address else socket.AF_INET)
     if room is not None:
         conn.setsockopt(socket.SOL_SOCKET, socket.SO_RCVBUF, room)
     conn.settimeout(60)
-    conn.connect(("127.0.0.1", port))
+    conn.connect((address, port))
     lines = [head, *([f"Host: 127.0.0.1:{port}"] if host is None else host)]
     conn.sendall(("\r\n".join(lines) + "\r\n\r\n").encode())
     return conn
@@ -65,9 +67,9 @@ def all_of(conn):
     return data
 
 
-def status(port, head, host=None):
+def status(port, head, host=None, address="127.0.0.1"):
     """The status of an answer; 0 where none comes."""
-    found = re.match(rb"HTTP/1\.[01] (\d+)", all_of(asked(port, head, host)))
+    found = re.match(rb"HTTP/1\.[01] (\d+)", all_of(asked(port, head, host, address=address)))
     return int(found[1]) if found else 0
 
 
@@ -108,6 +110,136 @@ def refusals(check, port):
     told = [status(port, f"GET {path} HTTP/1.1") for path in paths]
     check("no other path is there", told == [404] * len(paths), told)
     check("it listens on 127.0.0.1 alone", listens(port) == {"0100007F"}, listens(port))
+
+
+def other_sites(check, port):
+    """A page of another site gets nothing, also where it doesn't have to ask before; a link to the page is followed."""
+    own, link = [f"Host: 127.0.0.1:{port}"], "Sec-Fetch-Dest: document"
+    for fields, wanted in ((["Origin: http://evil.example"], [403, 403]), (["Origin: null"], [403, 403]),
+                           ([f"Origin: https://127.0.0.1:{port}"], [403, 403]),
+                           ([f"Origin: http://127.0.0.1:{port + 1}"], [403, 403]),
+                           (["Sec-Fetch-Site: cross-site", "Sec-Fetch-Dest: image"], [403, 403]),
+                           (["Sec-Fetch-Site: same-site", "Sec-Fetch-Dest: empty"], [403, 403]),
+                           (["Sec-Fetch-Site: cross-site", "Sec-Fetch-Dest: iframe"], [403, 403]),
+                           (["Sec-Fetch-Site: cross-site"], [403, 403]),
+                           (["Sec-Fetch-Site: cross-site", link], [200, 403]),
+                           (["Sec-Fetch-Site: none", link], [200, 200]),
+                           ([f"Origin: http://127.0.0.1:{port}", "Sec-Fetch-Site: same-origin"], [200, 200])):
+        told = [first_status(port, f"GET {path} HTTP/1.1", [*own, *fields]) for path in ("/", "/lines")]
+        check(f"a request with {' and '.join(fields)} is answered {wanted}", told == wanted, told)
+
+
+def first_status(port, head, host, address="127.0.0.1"):
+    """The status of an answer that needn't end."""
+    conn = asked(port, head, host, address=address)
+    said = conn.makefile("rb").readline()
+    conn.close()
+    return int(said.split()[1]) if said else 0
+
+
+def for_a_network(check, port, address, written, refused):
+    """With --host there is that address alone, and nothing without the token, whatever is asked for."""
+    page = Page(port, ["--host", address])
+    found = re.fullmatch(rf"http://{re.escape(written)}:{port}/([a-z2-9]{{16}})/", page.url)
+    check(f"with --host {address} it says where the page is, with a token", found, page.said.strip())
+    check("it listens on this address alone", len(told := listens(port)) == 1 and told != {"0100007F"}, told)
+    token, own = found[1], [f"Host: {written}:{port}"]
+    page.feed('{"event":"slept","reading":"5"}')
+    other = ("b" if token[0] == "a" else "a") + token[1:]
+    paths = ["/", "/lines", "/page.html", f"/{token[:-1]}/", f"/{token}x/", f"/{other}/", f"/{other}/lines",
+             f"/x/{token}/", f"/{token}/x", f"/{token}lines", f"/lines/{token}", f"/?{token}", f"/{token}/../lines",
+             f"/{token}/\xe9", f"/%{ord(token[0]):02x}{token[1:]}/", "/" + "a" * 5000]
+    told = {path: first_status(port, f"GET {path} HTTP/1.1", own, address) for path in paths}
+    served = [path for path, status in told.items() if status != 404]
+    check("without the token nothing is served", not served, served or f"{len(paths)} paths")
+    for path in (f"/{token}/", f"/{token}", f"/{token}/lines"):
+        told = [first_status(port, f"GET {path} HTTP/1.1", [f"Host: {host}"], address)
+                for host in (f"{written}:{port}", *refused, "evil.example", f"evil.example:{port}", written)]
+        check(f"with it {path.replace(token, 'TOKEN')} is, by this address alone", told[0] == 200 and
+              set(told[1:]) == {403}, told)
+        told = first_status(port, f"GET {path} HTTP/1.1", [*own, "Origin: http://evil.example"], address)
+        check("and no page of another site gets it", told == 403, told)
+    body = all_of(asked(port, f"GET /{other}/ HTTP/1.1", own, address=address))
+    check("a refusal has neither the token nor a line", token.encode() not in body and b"slept" not in body)
+    lines = events(asked(port, f"GET /{token}/lines HTTP/1.1", own, address=address), 60, bool)
+    check("the lines are handed on", lines[0][2] == '{"event":"slept","reading":"5"}', lines[:1])
+    page.end()
+    return token
+
+
+def network(check, port):
+    """Addresses of this machine's own that stand for those of a network."""
+    tokens = [for_a_network(check, port, "127.0.0.2", "127.0.0.2", [f"localhost:{port}", f"127.0.0.1:{port}"])]
+    page = Page(port, ["--host", "127.0.0.2"])
+    tokens.append(page.url.split("/")[3])
+    check("each run has a token of its own", len(set(tokens)) == 2)
+    page.end()
+    if has_six():
+        for_a_network(check, port, "::1", "[::1]", [f"localhost:{port}", f"::1:{port}"])
+    else:
+        check.skip("the page on ::1", "this machine has no IPv6")
+    for word in ("0.0.0.0", "::", "224.0.0.1", "fe80::1%lo", "localhost", "127.0.0.1/8", ""):
+        told = subprocess.run([sys.executable, str(TOOL), "--host", word, "--port", str(port)], check=False, timeout=60,
+                              stdin=subprocess.DEVNULL, capture_output=True)
+        check(f"--host {word or 'of nothing'} is refused", told.returncode == 2 and b"--host" in told.stderr,
+              told.stderr[-80:])
+
+
+def has_six():
+    try:
+        with socket.socket(socket.AF_INET6) as one:
+            one.bind(("::1", 0))
+    except OSError:
+        return False
+    return True
+
+
+def byte_by_byte(check, port):
+    """A head that never ends is given up, though a byte of it comes each second."""
+    page = Page(port)
+    conn, begun = socket.create_connection(("127.0.0.1", port), 60), time.monotonic()
+    ended = False
+    for letter in "GET / HTTP/1.1\r\nHost: " + "a" * 200:
+        try:
+            conn.sendall(letter.encode())
+            conn.settimeout(1)
+            ended = conn.recv(100) == b""
+        except TimeoutError:
+            continue
+        except OSError:
+            ended = True
+        if ended or time.monotonic() > begun + 120:
+            break
+    check("a head that comes byte by byte is given up", ended, f"{time.monotonic() - begun:.0f} s")
+    conn.close()
+    page.end()
+
+
+def installed(check, port):
+    """As css-page it finds its page in share/css, also by a link; alone it says what it lacks."""
+    with tempfile.TemporaryDirectory() as folder:
+        top = pathlib.Path(folder)
+        program, data = top / "usr/bin/css-page", top / "usr/share/css/page.html"
+        program.parent.mkdir(parents=True)
+        data.parent.mkdir(parents=True)
+        shutil.copy(TOOL, program)
+        alone = subprocess.run([sys.executable, str(program), "--port", str(port)], stdin=subprocess.DEVNULL,
+                               capture_output=True, check=False, timeout=60)
+        check("without its page it says so, with status 1",
+              alone.returncode == 1 and b"page.html" in alone.stderr and b"Traceback" not in alone.stderr, alone.stderr)
+        shutil.copy(TOOL.with_name("page.html"), data)
+        (top / "css-page").symlink_to(program)
+        for tool in (program, top / "css-page"):
+            page = Page(port, tool=tool)
+            served = status(port, "GET / HTTP/1.1")
+            check(f"as {tool.relative_to(top)} it serves its page", served == 200 and
+                  page.said == f"css-page: http://127.0.0.1:{port}/\n", [page.said, served])
+            page.end()
+    told = subprocess.run([sys.executable, str(TOOL), "--help"], stdin=subprocess.DEVNULL, capture_output=True,
+                          check=False, timeout=60)
+    lacks = [word for word in ("--host", "--port", "--cii", "--name", "--replay", "--selector", "css-page")
+             if word not in told.stdout.decode()]
+    check("--help tells each option, with status 0", told.returncode == 0 and not lacks, lacks)
 
 
 def listens(port):
@@ -208,12 +340,13 @@ def unread(check, port):
 def starts(check, port):
     """How it starts, and how it doesn't."""
     page = Page(port)
-    check("it says where the page is", page.said == f"tools/page.py: http://127.0.0.1:{port}/\n", page.said.strip())
+    check("it says where the page is", page.said == f"page.py: http://127.0.0.1:{port}/\n", page.said.strip())
     second = subprocess.run([sys.executable, str(TOOL), "--port", str(port)], stdin=subprocess.DEVNULL,
                             capture_output=True, check=False, timeout=60)
     check("a port in use is told, with status 1", second.returncode == 1 and b"in use" in second.stderr)
     page.end()
-    for words in (["--port", "80"], ["--fast"], ["--local-error", "-1"], ["more"]):
+    for words in (["--port", "80"], ["--fast"], ["--local-error", "-1"], ["--name", "News"], ["--name", "=News"],
+                  ["more"]):
         told = subprocess.run([sys.executable, str(TOOL), *words], stdin=subprocess.DEVNULL, capture_output=True,
                               check=False, timeout=60)
         check(f"{' '.join(words)} is refused", told.returncode == 2, told.returncode)
@@ -222,10 +355,14 @@ def starts(check, port):
 def serving(check, port):
     """All of these checks."""
     starts(check, port)
+    installed(check, port)
     page = Page(port)
     refusals(check, port)
+    other_sites(check, port)
     heads(check, port)
     page.end()
+    network(check, port)
+    byte_by_byte(check, port)
     handed_on(check, port)
     replayed(check, port)
     too_long(check, port)

@@ -22,6 +22,8 @@ EVERY = SECOND // 4
 class Simulated:
     """A television that is made up, at the pace of its times."""
 
+    cii = "ws://192.168.1.20:6677/cii"
+
     def __init__(self):
         self.evening = Evening(STORY, OVER, EVERY, EVERY)
 
@@ -43,6 +45,7 @@ class Program:
 
     def __init__(self, words, port):
         self.words, self.port, self.tv = words, port, None
+        self.cii = f"ws://127.0.0.1:{port}/cii"
 
     def start(self, command, words, script=None):
         child = subprocess.Popen([*self.words, command, *words], text=True, stdin=subprocess.PIPE,
@@ -66,8 +69,8 @@ class Program:
     def lines(self):
         self.start_tv(SCRIPT)
         threading.Thread(target=self.story, daemon=True).start()
-        watch = self.start("watch", ["--cii", f"ws://127.0.0.1:{self.port}/cii", "--report-every", str(EVERY),
-                                     "--ask-every", str(EVERY), "--seconds", str(OVER)])
+        watch = self.start("watch", ["--cii", self.cii, "--report-every", str(EVERY), "--ask-every", str(EVERY),
+                                     "--seconds", str(OVER)])
         for line in watch.stdout:
             yield line.rstrip("\n")
         self.tv.kill()

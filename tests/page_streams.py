@@ -50,8 +50,8 @@ def cut(check, browser, port):
     page.feed(*made)
     check("the lines are shown", browser.until(f"kept.lines === {len(made)}"))
     page.end()
-    gone = browser.until("document.getElementById('words').textContent === 'no connection to tools/page.py'")
-    check("it says that the program is gone", gone, browser.text("matter"))
+    check("it says that the program is gone", browser.word("No connection to the program of this page"),
+          browser.text("matter"))
     page = Page(port)
     page.feed(*made[:9])
     check("the page connects again, and begins anew", browser.until(f"link.open && kept.lines === {len(made[:9])}"))
@@ -65,8 +65,7 @@ def cut(check, browser, port):
     rows = browser.rows("refused")
     check("half a line is told", len(rows) == 1 and rows[0][1] == "line of the watch", rows)
     check("and that the watch began anew", any(row[3] == "the watch began anew" for row in browser.rows("visits")))
-    silent = browser.until("document.getElementById('words').textContent === 'no line of the watch'")
-    check("a watch that says nothing is told", silent, browser.text("matter"))
+    check("a watch that says nothing is told", browser.word("No line comes from the watch"), browser.text("matter"))
     page.end()
 
 
@@ -91,8 +90,8 @@ def odd(check, browser, port):
           browser.text("position"))
     check("markup is a text", markup in browser.text("state") and not browser.tell("document.images.length"))
     page.feed('{"event":"end","number":1,"why":"closed TS"}')
-    ended = browser.until("document.getElementById('words').textContent === 'visit 1 ended: closed TS'")
-    check("the end of a visit ends its position", ended and browser.text("position") == "not known")
+    ended = browser.word("The television closed CSS-TS")
+    check("the end of a visit ends its position", ended and browser.text("position") == "position not known")
     after = [{"event": "control", "fault": "Unreadable Fractional"}, {"event": "later", "reading": "1"}, 5, None,
              {"event": "constructor"}, {"event": "answer", "landed": "x"},
              {"event": "state", "state": {"timelines": [5]}},
@@ -108,7 +107,7 @@ def odd(check, browser, port):
     wanted = ["tsUrl", "CII text 2", *["line of the watch"] * 4, "CSS-TS text", "line of the watch"]
     check("all that is odd is told", [row[0] for row in told] == wanted, told)
     check("and why each visit ended", [row[3][:21] for row in browser.rows("visits")] ==
-          ["bad tsUrl: it is no w", "CII text 2: field tim"], browser.text("matter"))
+          ["bad tsUrl: it was no ", "CII text 2: field tim"], browser.text("matter"))
     page.end()
 
 
@@ -122,9 +121,8 @@ def selected(check, browser, port):
     page = Page(port, ["--selector", "urn:x:1"])
     browser.open(page.url)
     page.feed(*map(json.dumps, lines), json.dumps({**state, "state": {**state["state"], "timelines": None}}))
-    words = "the state lists no timeline with the wanted selector"
-    lost = browser.until(f"document.getElementById('words').textContent === '{words}'")
-    check("a state without the timeline ends the position", lost and browser.text("position") == "not known")
+    lost = browser.word("The television lists no timeline with the wanted selector")
+    check("a state without the timeline ends the position", lost and browser.text("position") == "position not known")
     timeline["timelineProperties"] = SLOW_RATE
     page.feed(json.dumps(state))
     browser.until("position(readingNow()) !== null")
@@ -135,7 +133,20 @@ def selected(check, browser, port):
     page.end()
 
 
+def by_token(check, browser, port):
+    """A page that is served to a network by its token, also where the last slash isn't typed."""
+    made = [line for _, line in Evening([], 4).lines()]
+    page = Page(port, ["--host", "127.0.0.2"])
+    page.feed(*made)
+    for url in (page.url, page.url.rstrip("/")):
+        browser.open(url)
+        shown = browser.until(f"kept.lines === {len(made)} && watch.report")
+        check("by its token the page shows the lines", shown, url.partition(str(port))[2])
+    page.end()
+    check("and says that the program is gone", browser.word("No connection to the program of this page"))
+
+
 def streams(check, browser, port):
     """All of these checks."""
-    for at, each in enumerate((many, long_ago, cut, odd, selected)):
+    for at, each in enumerate((many, long_ago, cut, odd, selected, by_token)):
         each(check, browser, port + at)
