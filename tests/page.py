@@ -6,7 +6,7 @@
 The lines are those of a simulation. Where the words of a program are given, or $CSS is set, they are those of its
 commands `tv` and `watch`, and of `watch` beside tools/wrong_tv.py. Each check prints a line, and the last line is how
 many failed. The status is 1 where one failed. It needs Chromium, as the system's package. The picture is a PNG of the
-page at a desk's width, with the saved evening.
+first part of the page, with the saved evening.
 """
 import argparse
 import json
@@ -203,7 +203,7 @@ def saved(browser, port):
 def take_picture(browser, port, path):
     """The saved evening at its end, while the page still waits for more."""
     page = Page(port)
-    browser.look(*DESK)
+    browser.look(1000, 880)
     browser.open(page.url)
     page.feed(*SAVED.read_text(encoding="ascii").splitlines())
     browser.until("watch.report")

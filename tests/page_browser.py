@@ -169,7 +169,7 @@ class Browser:
         return self.until(f"document.getElementById('words').textContent === {json.dumps(words)}")
 
     def picture(self, path):
-        data = self.call("Page.captureScreenshot", format="png", captureBeyondViewport=True)["data"]
+        data = self.call("Page.captureScreenshot", format="png")["data"]
         pathlib.Path(path).write_bytes(base64.b64decode(data))
 
     def end(self):
