@@ -120,7 +120,7 @@ def moments(seen, lines):
     shown = []
     for moment in seen:
         rate = due(lines[:moment["lines"]])[2]
-        if moment["now"]:
+        if moment["now"] and rate:
             shown.append((times([int(tick) for tick in moment["now"].split()[3:]], rate), moment["position"]))
     wrong = [pair for pair in shown if pair[0] != pair[1]]
     check("it is shown as times, one where both ends are alike", shown and not wrong, wrong[:2] or shown[-1][1])

@@ -66,6 +66,8 @@ def sentence_of(detail):
     if count:
         many = "request" if count[1] == "1" else "requests"
         return f"The television's wall clock doesn't answer: no response to {count[1]} {many}"
+    if detail.startswith("the last datagram was refused: "):
+        return f"The television's wall clock answers wrongly: {detail.split(': ', 1)[1]}"
     return SENTENCES[detail]
 
 
@@ -74,7 +76,7 @@ def matter(lines):
     found = since = None
     for line in lines:
         if line["event"] == "report":
-            said = line.get("detail")
+            said = line.get("cause") in ("NoAnswer", "NoTimestamp") and line["detail"]
             if not said or not found or without_digits(said) != without_digits(found):
                 since = int(line["reading"])
             found = said
