@@ -123,7 +123,7 @@ def moments(seen, lines):
         if moment["now"] and rate:
             shown.append((times([int(tick) for tick in moment["now"].split()[3:]], rate), moment["position"]))
     wrong = [pair for pair in shown if pair[0] != pair[1]]
-    check("it is shown as times, one where both ends are alike", shown and not wrong, wrong[:2] or shown[-1][1])
+    check("it is shown as times, one where both ends are alike", shown and not wrong, wrong[:2] or shown[-1:])
 
 
 def headlines(seen, lines, cii):
