@@ -1,0 +1,9 @@
+pub mod Steps
+pub mod Times
+pub mod Lists
+pub mod Open
+pub mod Latest
+pub mod After
+pub mod Earliest
+pub mod Bounds
+pub mod Limits

@@ -1,0 +1,182 @@
+-- Both ends of a span are reached, but for a few nanoseconds.
+use Rattle.std.proofs.Common.{◌≡◌, ℕ, ◌+◌, ◌-◌, ◌*◌, ◌<◌, ◌≤◌, arith, ap, refl, [], ◌∷◌}
+use Rattle.std.specs.Prelude.{ℤ, pos, ◌+ℤ◌, ◌-ℤ◌, ◌≤ℤ◌, Some}
+use Rattle.std.proofs.lemmas.Int.{ints}
+use Rattle.std.proofs.Math.Nat.{mul-le-mul_left}
+use Rattle.css_model.specs.declared.TheConstants.{F}
+use Rattle.css_model.specs.Numbers.{IsWithin}
+use Rattle.css_model.specs.WallClock.{Answer, Local, IsLocal, lo, hi}
+use Rattle.css_model.specs.World.{World, Errors, IsWorldFor, Reads, RunsWithin}
+use Rattle.css_model.specs.Truth.{Exchange, IsTimed}
+use Rattle.css_model.proofs.Spans.{RunsWithin-more}
+use Rattle.css_limits.specs.Worlds.{Shown, declared, latest, earliest, item, latest_at}
+use Rattle.css_limits.specs.Worlds.{latest_first, latest_transmit, latest_last}
+use Rattle.css_limits.specs.Worlds.{earliest_first, earliest_receipt, earliest_landed, earliest_between, earliest_last}
+use Rattle.css_limits.specs.Limits.{MayShow, IsUsual, HasRun, Reaches, AlwaysIn}
+use Rattle.css_limits.specs.Limits.{EndsAreReached, NoneIsNarrower, UpperEndIsReached}
+use Rattle.css_limits.proofs.Lists.{is_world_of, reads_of}
+use Rattle.css_limits.proofs.Open.{IsOpen}
+use Rattle.css_limits.proofs.Latest.{latest_runs, latest_transmit-near}
+use Rattle.css_limits.proofs.Earliest.{earliest_runs, earliest_receipt-near, earliest_transmit-near}
+use Rattle.css_limits.proofs.Bounds.{latest-high, earliest-low}
+
+-- what two clocks of a world show of an exchange: its turnaround fits into its round trip
+fits_in : (own answer_error tv who_error pL p t1 t2 t3 t4 ta la tb wb tc wc td ld : ℕ)
+    → tv ≤ answer_error → who_error ≤ own → own < F → ta ≤ tb → tb ≤ tc → tc ≤ td
+    → RunsWithin tv tb wb tc wc → RunsWithin who_error ta la td ld
+    → IsWithin pL t1 la → IsWithin p t2 wb → IsWithin p t3 wc → IsWithin pL t4 ld
+    → (t1 ≤ t4 + 2 * pL + 1) × ((F * t3 ≤ F * (t2 + 2 * p + 1) + (F + answer_error) * (tc - tb))
+    × ((F - own) * (tc - tb) ≤ F * (t4 + 2 * pL + 1 - t1)))
+fits_in own error tv who pL p t1 t2 t3 t4 ta la tb wb tc wc td ld most more small asked turned landed wall clock n1 n2
+    n3 n4 =
+    let wider = RunsWithin-more tv error tb wb tc wc most wall in
+    let slower = RunsWithin-more who own ta la td ld more clock in
+    let parts : F - own + own ≡ F = omega arith in
+    let split : (F - own) * (td - ta) + own * (td - ta) ≡ F * (td - ta) =
+    omega (arith, ap (λ n. n * (td - ta)) parts) in
+    let inside : (F - own) * (tc - tb) ≤ (F - own) * (td - ta) = mul-le-mul_left (F - own) (omega arith) in
+    let long : (F - own) * (td - ta) + F * t1 ≤ F * (t4 + 2 * pL + 1) =
+    omega (arith, split, slower.0, slower.1) in
+    (
+      omega (arith, long),
+      (
+        omega (arith, wider.0, wider.1),
+        omega (arith, inside, long),
+      ),
+    )
+
+-- so an exchange that some world has is given
+open_of : (own : Local) (answer : Answer) (reading wall : ℕ) → IsUsual own answer reading
+    → MayShow own answer reading wall → IsOpen own answer
+open_of own answer reading wall usual may =
+    let world = may.world in
+    let e = may.exchange in
+    let timed = may.timed in
+    let keeps = may.is_world.keeps in
+    let ranges = may.is_world.ranges in
+    let first = timed.t1 in
+    let last = timed.t4 in
+    let whole : e.asked ≤ e.landed =
+    omega (arith, timed.received_later, timed.transmitted_later, timed.landed_later) in
+    let found = fits_in own.error answer.error may.errors.tv (may.errors.companion may.who) own.precision
+    answer.precision answer.t1 answer.t2 answer.t3 answer.t4
+    (world e.asked).time first.clock.value (world e.received).time (world e.received).wall
+    (world e.transmitted).time (world e.transmitted).wall (world e.landed).time last.clock.value
+    may.declared may.is_world.declared (omega (arith, ranges.error))
+    (keeps.order e.asked e.received timed.received_later)
+    (keeps.order e.received e.transmitted timed.transmitted_later)
+    (keeps.order e.transmitted e.landed timed.landed_later)
+    (keeps.tv e.received e.transmitted timed.transmitted_later)
+    (keeps.companion may.who e.asked e.landed first.clock last.clock whole first.shows last.shows
+    (omega (arith, first.awake, last.awake)))
+    first.near timed.t2 timed.t3 last.near in
+    record {
+      ranges = ranges;
+      error = usual.error;
+      precise = usual.precise;
+      t1 = usual.t1;
+      t2 = usual.t2;
+      t3 = usual.t3;
+      order = found.0;
+      time = (world e.transmitted).time - (world e.received).time;
+      enough = found.1.0;
+      fits = found.1.1;
+    }
+
+-- the exchange of both worlds, by the numbers of its moments
+abbrev numbered : Exchange
+numbered = record { asked = 0; received = 1; transmitted = 2; landed = 3 }
+
+-- the wall clock may show the greatest value
+may_be_latest : (own : Local) (answer : Answer) (reading : ℕ) → IsOpen own answer → answer.t4 ≤ reading
+    → MayShow own answer reading (latest_last own answer reading).wall
+unfolding latest_at
+may_be_latest own answer reading given late =
+    let first = latest_first own answer in
+    let later = latest_first own answer ∷ latest_transmit own answer ∷ latest_at own answer answer.t4
+    ∷ latest_at own answer answer.t4 ∷ latest_last own answer reading ∷ [] in
+    let runs = latest_runs own answer answer.t4 reading given (omega arith) late in
+    record {
+      errors = declared own answer;
+      world = latest own answer answer.t4 reading;
+      who = 1;
+      exchange = numbered;
+      sleeps = 0;
+      moment = 5;
+      is_world = is_world_of own answer 1 first later given.ranges runs;
+      declared = omega arith;
+      timed = record {
+        received_later = omega arith;
+        transmitted_later = omega arith;
+        landed_later = omega arith;
+        t1 = reads_of 1 own.precision answer.t1 0 first later (omega (arith, given.t1));
+        t2 = omega arith;
+        t3 = latest_transmit-near own answer given;
+        t4 = reads_of 1 own.precision answer.t4 3 first later (omega arith);
+      };
+      later = omega arith;
+      reads = reads_of 1 own.precision reading 5 first later (omega arith);
+      shows = refl;
+    }
+
+-- and the least
+may_be_earliest : (own : Local) (answer : Answer) (reading : ℕ) → IsOpen own answer → HasRun own answer
+    → answer.t4 + 2 * own.precision + 1 ≤ reading
+    → MayShow own answer reading (earliest_last own answer answer.t4 reading).wall
+may_be_earliest own answer reading given old late =
+    let first = earliest_first own answer in
+    let later = earliest_receipt own answer ∷ earliest_landed own answer ∷ earliest_landed own answer
+    ∷ earliest_between own answer answer.t4 reading ∷ earliest_last own answer answer.t4 reading ∷ [] in
+    let runs = earliest_runs own answer answer.t4 reading given old late in
+    record {
+      errors = declared own answer;
+      world = earliest own answer answer.t4 reading;
+      who = 1;
+      exchange = numbered;
+      sleeps = 0;
+      moment = 5;
+      is_world = is_world_of own answer 1 first later given.ranges runs;
+      declared = omega arith;
+      timed = record {
+        received_later = omega arith;
+        transmitted_later = omega arith;
+        landed_later = omega arith;
+        t1 = reads_of 1 own.precision answer.t1 0 first later (omega (arith, given.t1));
+        t2 = earliest_receipt-near own answer given;
+        t3 = earliest_transmit-near own answer given;
+        t4 = reads_of 1 own.precision answer.t4 3 first later (omega arith);
+      };
+      later = omega arith;
+      reads = reads_of 1 own.precision reading 5 first later (omega (arith, late));
+      shows = refl;
+    }
+
+pub ends_are_reached : EndsAreReached
+ends_are_reached own answer reading wall usual old may =
+    let given = open_of own answer reading wall usual may in
+    record {
+      least = (earliest_last own answer answer.t4 reading).wall;
+      may_be_least = may_be_earliest own answer reading given old usual.late;
+      low_enough = earliest-low own answer answer.t4 reading given usual.late;
+      greatest = (latest_last own answer reading).wall;
+      may_be_greatest = may_be_latest own answer reading given (omega (arith, usual.late));
+      high_enough = latest-high own answer reading given (omega (arith, usual.late));
+    }
+
+pub upper_end_is_reached : UpperEndIsReached
+upper_end_is_reached own answer reading wall usual may =
+    let given = open_of own answer reading wall usual may in (
+      (latest_last own answer reading).wall,
+      may_be_latest own answer reading given (omega (arith, usual.late)),
+      latest-high own answer reading given (omega (arith, usual.late)),
+    )
+
+pub none_is_narrower : NoneIsNarrower
+none_is_narrower own answer reading wall low high value usual old may always above below =
+    let ends = ends_are_reached own answer reading wall usual old may in
+    let least = always ends.least ends.may_be_least in
+    let greatest = always ends.greatest ends.may_be_greatest in
+    (
+      omega (arith, ints, least.0, ends.low_enough),
+      omega (arith, ints, greatest.1, ends.high_enough),
+    )

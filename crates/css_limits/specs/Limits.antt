@@ -1,0 +1,78 @@
+-- No interval is narrower than an answer's span, but for a few nanoseconds at each end.
+use Rattle.std.specs.Prelude.{ℕ, ◌+◌, ◌-◌, ◌*◌, ◌≤◌, ◌≡◌, ℤ, pos, ◌+ℤ◌, ◌-ℤ◌, ◌≤ℤ◌}
+use Rattle.css_model.specs.Numbers.{max_error}
+use Rattle.css_model.specs.WallClock.{Answer, Local, lo, hi}
+use Rattle.css_model.specs.World.{World, Errors, IsWorldFor, Reads}
+use Rattle.css_model.specs.Truth.{Exchange, IsTimed}
+use Rattle.css_limits.specs.Worlds.{since_asked}
+
+-- Some world keeps the declared errors, has an exchange with the answer's times, and reads the companion's clock so
+-- after its landing. There the wall clock shows this then.
+pub record MayShow (own : Local) (answer : Answer) (reading wall : ℕ) : Type 0 where
+  pub errors : Errors
+  pub world : World
+  pub who : ℕ
+  pub exchange : Exchange
+  pub sleeps : ℕ
+  pub moment : ℕ
+  pub is_world : IsWorldFor errors world who own
+  pub declared : errors.tv ≤ answer.error
+  pub timed : IsTimed world who own answer exchange sleeps
+  pub later : exchange.landed ≤ moment
+  pub reads : Reads world who moment own.precision reading sleeps
+  pub shows : (world moment).wall ≡ wall
+
+-- What an answer has to be: its precision is at least a nanosecond, as each datagram's is, no clock was read before it
+-- began to count, and the reading isn't next to the landing.
+pub record IsUsual (own : Local) (answer : Answer) (reading : ℕ) : Type 0 where
+  pub error : answer.error ≤ max_error
+  pub precise : 1 ≤ answer.precision
+  pub t1 : own.precision ≤ answer.t1
+  pub t2 : answer.precision ≤ answer.t2
+  pub t3 : answer.t2 ≤ answer.t3
+  pub late : answer.t4 + 2 * own.precision + 1 ≤ reading
+
+-- When the request came, the wall clock had counted for at least the longest true time that the round trip can have
+-- taken. A younger clock tells more than its answer does: it can't have shown less than 0 when the request was sent.
+abbrev pub HasRun : Local → Answer → Type 0
+HasRun own answer = since_asked own answer answer.t4 ≤ answer.t2 - answer.precision
+
+-- what is lost at each end, in nanoseconds: moments and clocks are whole
+abbrev pub loss : ℕ
+loss = 4
+
+-- in some such world the wall clock shows no more than this, and in some no less
+pub record Reaches (own : Local) (answer : Answer) (reading : ℕ) (low high : ℤ) : Type 0 where
+  pub least : ℕ
+  pub may_be_least : MayShow own answer reading least
+  pub low_enough : pos least ≤ℤ low
+  pub greatest : ℕ
+  pub may_be_greatest : MayShow own answer reading greatest
+  pub high_enough : high ≤ℤ pos greatest
+
+-- the interval contains what the wall clock shows in each such world
+abbrev pub AlwaysIn : Local → Answer → ℕ → ℤ → ℤ → Type 0
+AlwaysIn own answer reading low high = (wall : ℕ) → MayShow own answer reading wall
+    → (low ≤ℤ pos wall) × (pos wall ≤ℤ high)
+
+-- Where some world explains an answer and a reading, the wall clock can have shown both ends of the answer's span
+-- there, but for the loss.
+abbrev pub EndsAreReached : Type 0
+EndsAreReached = (own : Local) (answer : Answer) (reading wall : ℕ)
+    → IsUsual own answer reading → HasRun own answer → MayShow own answer reading wall
+    → Reaches own answer reading (lo own answer reading +ℤ pos loss) (hi own answer reading -ℤ pos loss)
+
+-- So each interval that is always true contains every value between these.
+abbrev pub NoneIsNarrower : Type 0
+NoneIsNarrower = (own : Local) (answer : Answer) (reading wall : ℕ) (low high value : ℤ)
+    → IsUsual own answer reading → HasRun own answer → MayShow own answer reading wall
+    → AlwaysIn own answer reading low high
+    → (lo own answer reading +ℤ pos loss) ≤ℤ value → value ≤ℤ (hi own answer reading -ℤ pos loss)
+    → (low ≤ℤ value) × (value ≤ℤ high)
+
+-- The upper end is reached however young the wall clock is.
+abbrev pub UpperEndIsReached : Type 0
+UpperEndIsReached = (own : Local) (answer : Answer) (reading wall : ℕ)
+    → IsUsual own answer reading → MayShow own answer reading wall
+    → (greatest : ℕ) × MayShow own answer reading greatest
+    × ((hi own answer reading -ℤ pos loss) ≤ℤ pos greatest)
