@@ -7,3 +7,6 @@ pub mod After
 pub mod Earliest
 pub mod Bounds
 pub mod Limits
+pub mod Histories
+pub mod FollowUps
+pub mod Young

@@ -46,7 +46,7 @@ fits_in own error tv who pL p t1 t2 t3 t4 ta la tb wb tc wc td ld most more smal
     )
 
 -- so an exchange that some world has is given
-open_of : (own : Local) (answer : Answer) (reading wall : ℕ) → IsUsual own answer reading
+pub open_of : (own : Local) (answer : Answer) (reading wall : ℕ) → IsUsual own answer reading
     → MayShow own answer reading wall → IsOpen own answer
 open_of own answer reading wall usual may =
     let world = may.world in
@@ -151,7 +151,7 @@ may_be_earliest own answer reading given old late =
       shows = refl;
     }
 
-pub ends_are_reached : EndsAreReached
+pub ends_are_reached : EndsAreReached 4
 ends_are_reached own answer reading wall usual old may =
     let given = open_of own answer reading wall usual may in
     record {
@@ -163,7 +163,7 @@ ends_are_reached own answer reading wall usual old may =
       high_enough = latest-high own answer reading given (omega (arith, usual.late));
     }
 
-pub upper_end_is_reached : UpperEndIsReached
+pub upper_end_is_reached : UpperEndIsReached 4
 upper_end_is_reached own answer reading wall usual may =
     let given = open_of own answer reading wall usual may in (
       (latest_last own answer reading).wall,
@@ -171,7 +171,7 @@ upper_end_is_reached own answer reading wall usual may =
       latest-high own answer reading given (omega (arith, usual.late)),
     )
 
-pub none_is_narrower : NoneIsNarrower
+pub none_is_narrower : NoneIsNarrower 4
 none_is_narrower own answer reading wall low high value usual old may always above below =
     let ends = ends_are_reached own answer reading wall usual old may in
     let least = always ends.least ends.may_be_least in

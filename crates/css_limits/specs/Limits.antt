@@ -37,10 +37,6 @@ pub record IsUsual (own : Local) (answer : Answer) (reading : ℕ) : Type 0 wher
 abbrev pub HasRun : Local → Answer → Type 0
 HasRun own answer = since_asked own answer answer.t4 ≤ answer.t2 - answer.precision
 
--- what is lost at each end, in nanoseconds: moments and clocks are whole
-abbrev pub loss : ℕ
-loss = 4
-
 -- in some such world the wall clock shows no more than this, and in some no less
 pub record Reaches (own : Local) (answer : Answer) (reading : ℕ) (low high : ℤ) : Type 0 where
   pub least : ℕ
@@ -56,23 +52,39 @@ AlwaysIn own answer reading low high = (wall : ℕ) → MayShow own answer readi
     → (low ≤ℤ pos wall) × (pos wall ≤ℤ high)
 
 -- Where some world explains an answer and a reading, the wall clock can have shown both ends of the answer's span
--- there, but for the loss.
-abbrev pub EndsAreReached : Type 0
-EndsAreReached = (own : Local) (answer : Answer) (reading wall : ℕ)
+-- there, but for a loss of so many nanoseconds: moments and clocks are whole.
+abbrev pub EndsAreReached : ℕ → Type 0
+EndsAreReached loss = (own : Local) (answer : Answer) (reading wall : ℕ)
     → IsUsual own answer reading → HasRun own answer → MayShow own answer reading wall
     → Reaches own answer reading (lo own answer reading +ℤ pos loss) (hi own answer reading -ℤ pos loss)
 
 -- So each interval that is always true contains every value between these.
-abbrev pub NoneIsNarrower : Type 0
-NoneIsNarrower = (own : Local) (answer : Answer) (reading wall : ℕ) (low high value : ℤ)
+abbrev pub NoneIsNarrower : ℕ → Type 0
+NoneIsNarrower loss = (own : Local) (answer : Answer) (reading wall : ℕ) (low high value : ℤ)
     → IsUsual own answer reading → HasRun own answer → MayShow own answer reading wall
     → AlwaysIn own answer reading low high
     → (lo own answer reading +ℤ pos loss) ≤ℤ value → value ≤ℤ (hi own answer reading -ℤ pos loss)
     → (low ≤ℤ value) × (value ≤ℤ high)
 
 -- The upper end is reached however young the wall clock is.
-abbrev pub UpperEndIsReached : Type 0
-UpperEndIsReached = (own : Local) (answer : Answer) (reading wall : ℕ)
+abbrev pub UpperEndIsReached : ℕ → Type 0
+UpperEndIsReached loss = (own : Local) (answer : Answer) (reading wall : ℕ)
     → IsUsual own answer reading → MayShow own answer reading wall
     → (greatest : ℕ) × MayShow own answer reading greatest
     × ((hi own answer reading -ℤ pos loss) ≤ℤ pos greatest)
+
+-- ---- a young wall clock
+-- The request, the answer and the landing of a television whose wall clock begins to count only with the request.
+abbrev pub young_answer : Answer
+young_answer = record { t1 = 0; t2 = 1; t3 = 1; t4 = 1000; precision = 1; error = 0 }
+
+abbrev pub exact : Local
+exact = record { error = 0; precision = 0 }
+
+-- Some world explains it, and the lower end of its span is below zero. But in each such world the wall clock has
+-- counted since the request was sent.
+pub record TellsMore (reading wall : ℕ) : Type 0 where
+  pub usual : IsUsual exact young_answer reading
+  pub may_show : MayShow exact young_answer reading wall
+  pub low_end : (lo exact young_answer reading) ≤ℤ pos 0
+  pub counted : (other : ℕ) → MayShow exact young_answer reading other → 999 ≤ other
