@@ -17,6 +17,7 @@ use Rattle.css_limits.specs.Worlds.{earliest_first, earliest_receipt, earliest_l
 use Rattle.css_limits.specs.Limits.{MayShow}
 use Rattle.css_limits.specs.Histories.{Trip, taken, times, Explained}
 use Rattle.css_limits.specs.Histories.{Followed, IsFollowed, told_by_follow_up, FollowUpsHaveLimits}
+use Rattle.css_model.proofs.Landings.{landed_answer-is}
 use Rattle.css_limits.proofs.Lists.{is_world_of, reads_of}
 use Rattle.css_limits.proofs.Open.{IsOpen}
 use Rattle.css_limits.proofs.Latest.{latest_runs, latest_transmit-near}
@@ -24,7 +25,7 @@ use Rattle.css_limits.proofs.Earliest.{earliest_runs, earliest_receipt-near, ear
 use Rattle.css_limits.proofs.After.{between_own-near}
 use Rattle.css_limits.proofs.Bounds.{latest-high, earliest-low}
 use Rattle.css_limits.proofs.Limits.{open_of}
-use Rattle.css_limits.proofs.Histories.{same_stamp, landed_is, asked_first, limits_of}
+use Rattle.css_limits.proofs.Histories.{same_stamp, declared_by, landed_is, asked_first, limits_of}
 
 -- the follow-up has the request's originate value
 originate_is : (f : Followed) (reading : ℕ) → IsFollowed f reading
@@ -203,7 +204,9 @@ pub follow_ups_have_limits : FollowUpsHaveLimits 4
 unfolding latest_at
 follow_ups_have_limits own who f reading wall is usual old e =
     let answer = times f.trip f.message in
-    let given : IsOpen own answer = open_of own answer reading wall usual (may_of own who f reading wall is e) in
+    let given : IsOpen own answer = open_of own answer reading wall
+    (declared_by f.trip f.message (landed_answer-is (Clock why.Land f.landed) (told_by_follow_up f).older
+    (told_by_follow_up f).landed (follow_up_is f reading is)).error) usual (may_of own who f reading wall is e) in
     let early = latest_first own answer in
     let early_later = latest_first own answer ∷ latest_transmit own answer ∷ latest_at own answer f.trip.landed
     ∷ latest_at own answer f.landed ∷ latest_last own answer reading ∷ [] in

@@ -1,12 +1,12 @@
 -- The history of a response has limits.
-use Rattle.std.proofs.Common.{◌≡◌, ℕ, ◌+◌, ◌-◌, ◌≤◌, min, arith, ap, sym, ◌∙◌, subst, refl, inl, inr, [], ◌∷◌, length}
+use Rattle.std.proofs.Common.{◌≡◌, ℕ, zero, suc, ◌+◌, ◌-◌, ◌^◌, ◌<◌, ◌≤◌, min, arith, ap, sym, ◌∙◌, subst, refl, inl, inr, [], ◌∷◌, length}
 use Rattle.std.proofs.Common.{true}
-use Rattle.std.specs.Prelude.{ℤ, pos, ◌+ℤ◌, ◌-ℤ◌, ◌≤ℤ◌, Some, ◌==◌, List}
+use Rattle.std.specs.Prelude.{ℤ, pos, negsuc, ◌+ℤ◌, ◌-ℤ◌, ◌≤ℤ◌, Some, ◌==◌, List}
 use Rattle.std.proofs.lemmas.Int.{ints}
 use Rattle.css_model.specs.declared.Stamp.{Stamp}
 use Rattle.css_model.specs.declared.Message.{Message}
 use Rattle.css_model.specs.declared.Why.TheVariants as why
-use Rattle.css_model.specs.Numbers.{IsWithin, precision_ns}
+use Rattle.css_model.specs.Numbers.{IsWithin, precision_ns, max_error}
 use Rattle.css_model.specs.WallClock.{Answer, Local, lo, hi}
 use Rattle.css_model.specs.World.{World, Errors, IsWorldFor, Reads}
 use Rattle.css_model.specs.Wire.{reading_of, stamp_of, is_same_stamp}
@@ -15,15 +15,35 @@ use Rattle.css_model.specs.Explains.{Explains, IsTruthful, IsJustAsked, WasAsked
 use Rattle.css_limits.specs.Worlds.{Shown, item, world_of, declared}
 use Rattle.css_limits.specs.Worlds.{latest_first, latest_transmit, latest_at, latest_last}
 use Rattle.css_limits.specs.Worlds.{earliest_first, earliest_receipt, earliest_landed, earliest_between, earliest_last}
-use Rattle.css_limits.specs.Limits.{MayShow, IsUsual, HasRun}
+use Rattle.css_limits.specs.Limits.{MayShow, IsDeclared, IsUsual, HasRun}
 use Rattle.css_limits.specs.Histories.{Trip, IsTrip, Told, taken, whole, times, told_by_response, Explained, HasLimits}
 use Rattle.css_limits.specs.Histories.{ResponsesHaveLimits}
+use Rattle.css_model.proofs.Landings.{landed_answer-is}
+use Rattle.css_limits.proofs.Times.{IsUp, up_is, cancel_lt}
 use Rattle.css_limits.proofs.Lists.{is_world_of, reads_of}
 use Rattle.css_limits.proofs.Open.{IsOpen}
 use Rattle.css_limits.proofs.Latest.{latest_runs, latest_transmit-near}
 use Rattle.css_limits.proofs.Earliest.{earliest_runs, earliest_receipt-near, earliest_transmit-near}
 use Rattle.css_limits.proofs.Bounds.{latest-high, earliest-low}
 use Rattle.css_limits.proofs.Limits.{open_of}
+
+-- powers of 2 are above 0
+power_above : (n : ℕ) → 0 < 2 ^ n
+power_above zero = omega arith
+power_above (suc n) = omega (arith, power_above n)
+
+-- a precision is at least a nanosecond
+at_least_one : (exponent : ℤ) → 1 ≤ precision_ns exponent
+at_least_one (pos n) = omega (arith, power_above n)
+at_least_one (negsuc n) =
+    let up : IsUp 1000000000 (2 ^ suc n) (precision_ns (negsuc n)) = up_is 1000000000 (2 ^ suc n) (power_above (suc n)) in
+    let above : 0 < precision_ns (negsuc n) =
+    cancel_lt 0 (precision_ns (negsuc n)) (2 ^ suc n) (omega (arith, up.reached)) in
+    omega arith
+
+-- what a datagram declares
+pub declared_by : (trip : Trip) (message : Message) → message.error ≤ max_error → IsDeclared (times trip message)
+declared_by trip message small = record { error = small; precise = at_least_one message.precision }
 
 -- a number equals itself
 same_number : (n : ℕ) → (n == n) ≡ true
@@ -163,7 +183,9 @@ pub responses_have_limits : ResponsesHaveLimits 4
 unfolding latest_at
 responses_have_limits own who trip reading wall is usual old e =
     let answer = times trip trip.message in
-    let given : IsOpen own answer = open_of own answer reading wall usual (may_of own who trip reading wall e) in
+    let given : IsOpen own answer = open_of own answer reading wall
+    (declared_by trip trip.message (landed_answer-is (Clock why.Land trip.landed) (taken trip)
+    (told_by_response trip).landed (landed_is trip is)).error) usual (may_of own who trip reading wall e) in
     let early = latest_first own answer in
     let early_later = latest_first own answer ∷ latest_transmit own answer ∷ latest_at own answer trip.landed
     ∷ latest_at own answer trip.landed ∷ latest_last own answer reading ∷ [] in

@@ -10,3 +10,4 @@ pub mod Limits
 pub mod Histories
 pub mod FollowUps
 pub mod Young
+pub mod Worked

@@ -12,7 +12,7 @@ use Rattle.css_model.proofs.Spans.{RunsWithin-more}
 use Rattle.css_limits.specs.Worlds.{Shown, declared, latest, earliest, item, latest_at}
 use Rattle.css_limits.specs.Worlds.{latest_first, latest_transmit, latest_last}
 use Rattle.css_limits.specs.Worlds.{earliest_first, earliest_receipt, earliest_landed, earliest_between, earliest_last}
-use Rattle.css_limits.specs.Limits.{MayShow, IsUsual, HasRun, Reaches, AlwaysIn}
+use Rattle.css_limits.specs.Limits.{MayShow, IsDeclared, IsUsual, HasRun, Reaches, AlwaysIn}
 use Rattle.css_limits.specs.Limits.{EndsAreReached, NoneIsNarrower, UpperEndIsReached}
 use Rattle.css_limits.proofs.Lists.{is_world_of, reads_of}
 use Rattle.css_limits.proofs.Open.{IsOpen}
@@ -46,9 +46,9 @@ fits_in own error tv who pL p t1 t2 t3 t4 ta la tb wb tc wc td ld most more smal
     )
 
 -- so an exchange that some world has is given
-pub open_of : (own : Local) (answer : Answer) (reading wall : ℕ) → IsUsual own answer reading
-    → MayShow own answer reading wall → IsOpen own answer
-open_of own answer reading wall usual may =
+pub open_of : (own : Local) (answer : Answer) (reading wall : ℕ) → IsDeclared answer
+    → IsUsual own answer reading → MayShow own answer reading wall → IsOpen own answer
+open_of own answer reading wall told usual may =
     let world = may.world in
     let e = may.exchange in
     let timed = may.timed in
@@ -72,8 +72,8 @@ open_of own answer reading wall usual may =
     first.near timed.t2 timed.t3 last.near in
     record {
       ranges = ranges;
-      error = usual.error;
-      precise = usual.precise;
+      error = told.error;
+      precise = told.precise;
       t1 = usual.t1;
       t2 = usual.t2;
       t3 = usual.t3;
@@ -152,8 +152,8 @@ may_be_earliest own answer reading given old late =
     }
 
 pub ends_are_reached : EndsAreReached 4
-ends_are_reached own answer reading wall usual old may =
-    let given = open_of own answer reading wall usual may in
+ends_are_reached own answer reading wall told usual old may =
+    let given = open_of own answer reading wall told usual may in
     record {
       least = (earliest_last own answer answer.t4 reading).wall;
       may_be_least = may_be_earliest own answer reading given old usual.late;
@@ -164,16 +164,16 @@ ends_are_reached own answer reading wall usual old may =
     }
 
 pub upper_end_is_reached : UpperEndIsReached 4
-upper_end_is_reached own answer reading wall usual may =
-    let given = open_of own answer reading wall usual may in (
+upper_end_is_reached own answer reading wall told usual may =
+    let given = open_of own answer reading wall told usual may in (
       (latest_last own answer reading).wall,
       may_be_latest own answer reading given (omega (arith, usual.late)),
       latest-high own answer reading given (omega (arith, usual.late)),
     )
 
 pub none_is_narrower : NoneIsNarrower 4
-none_is_narrower own answer reading wall low high value usual old may always above below =
-    let ends = ends_are_reached own answer reading wall usual old may in
+none_is_narrower own answer reading wall low high value told usual old may always above below =
+    let ends = ends_are_reached own answer reading wall told usual old may in
     let least = always ends.least ends.may_be_least in
     let greatest = always ends.greatest ends.may_be_greatest in
     (

@@ -78,9 +78,8 @@ counted other may =
 pub young_clocks_tell_more : TellsMore 1001 1001
 unfolding lo lower
 young_clocks_tell_more = record {
+  declared = record { error = omega arith; precise = omega arith };
   usual = record {
-    error = omega arith;
-    precise = omega arith;
     t1 = omega arith;
     t2 = omega arith;
     t3 = omega arith;

@@ -22,11 +22,14 @@ pub record MayShow (own : Local) (answer : Answer) (reading wall : ℕ) : Type 0
   pub reads : Reads world who moment own.precision reading sleeps
   pub shows : (world moment).wall ≡ wall
 
--- What an answer has to be: its precision is at least a nanosecond, as each datagram's is, no clock was read before it
--- began to count, and the reading isn't next to the landing.
-pub record IsUsual (own : Local) (answer : Answer) (reading : ℕ) : Type 0 where
+-- what each datagram declares: an error in its range, and a precision of at least a nanosecond
+pub record IsDeclared (answer : Answer) : Type 0 where
   pub error : answer.error ≤ max_error
   pub precise : 1 ≤ answer.precision
+
+-- No clock was read before it began to count, the television answered after it had the request, and the reading isn't
+-- next to the landing.
+pub record IsUsual (own : Local) (answer : Answer) (reading : ℕ) : Type 0 where
   pub t1 : own.precision ≤ answer.t1
   pub t2 : answer.precision ≤ answer.t2
   pub t3 : answer.t2 ≤ answer.t3
@@ -55,13 +58,13 @@ AlwaysIn own answer reading low high = (wall : ℕ) → MayShow own answer readi
 -- there, but for a loss of so many nanoseconds: moments and clocks are whole.
 abbrev pub EndsAreReached : ℕ → Type 0
 EndsAreReached loss = (own : Local) (answer : Answer) (reading wall : ℕ)
-    → IsUsual own answer reading → HasRun own answer → MayShow own answer reading wall
+    → IsDeclared answer → IsUsual own answer reading → HasRun own answer → MayShow own answer reading wall
     → Reaches own answer reading (lo own answer reading +ℤ pos loss) (hi own answer reading -ℤ pos loss)
 
 -- So each interval that is always true contains every value between these.
 abbrev pub NoneIsNarrower : ℕ → Type 0
 NoneIsNarrower loss = (own : Local) (answer : Answer) (reading wall : ℕ) (low high value : ℤ)
-    → IsUsual own answer reading → HasRun own answer → MayShow own answer reading wall
+    → IsDeclared answer → IsUsual own answer reading → HasRun own answer → MayShow own answer reading wall
     → AlwaysIn own answer reading low high
     → (lo own answer reading +ℤ pos loss) ≤ℤ value → value ≤ℤ (hi own answer reading -ℤ pos loss)
     → (low ≤ℤ value) × (value ≤ℤ high)
@@ -69,7 +72,7 @@ NoneIsNarrower loss = (own : Local) (answer : Answer) (reading wall : ℕ) (low 
 -- The upper end is reached however young the wall clock is.
 abbrev pub UpperEndIsReached : ℕ → Type 0
 UpperEndIsReached loss = (own : Local) (answer : Answer) (reading wall : ℕ)
-    → IsUsual own answer reading → MayShow own answer reading wall
+    → IsDeclared answer → IsUsual own answer reading → MayShow own answer reading wall
     → (greatest : ℕ) × MayShow own answer reading greatest
     × ((hi own answer reading -ℤ pos loss) ≤ℤ pos greatest)
 
@@ -84,6 +87,7 @@ exact = record { error = 0; precision = 0 }
 -- Some world explains it, and the lower end of its span is below zero. But in each such world the wall clock has
 -- counted since the request was sent.
 pub record TellsMore (reading wall : ℕ) : Type 0 where
+  pub declared : IsDeclared young_answer
   pub usual : IsUsual exact young_answer reading
   pub may_show : MayShow exact young_answer reading wall
   pub low_end : (lo exact young_answer reading) ≤ℤ pos 0
