@@ -6,12 +6,12 @@ use Rattle.std.proofs.lemmas.Int.{ints}
 use Rattle.std.proofs.Math.Nat.{mul-le-mul_left, le_of_mul-le-mul_left}
 use borrow.Author.Differences.{same_in}
 use Rattle.css_model.specs.declared.TheConstants.{F}
-use Rattle.css_model.specs.Numbers.{floor_div, ceil_div, max_error}
-use Rattle.css_model.specs.WallClock.{Answer, Local, IsLocal, lo, hi, IsSpan}
+use Rattle.css_model.specs.Numbers.{floor_div, ceil_div}
+use Rattle.css_model.specs.WallClock.{Answer, Local, lo, hi, IsSpan}
 use Rattle.css_model.proofs.Division.{times_difference}
 use Rattle.css_model.proofs.Standard.{spans_are_the_standard}
-use Rattle.css_limits.specs.Worlds.{since_asked, gone, earliest_received, latest_last, earliest_last, until_last}
-use Rattle.css_limits.proofs.Times.{IsDown, IsUp, down_is, up_is, longest_is, IsGone, gone_is, cancel_lt}
+use Rattle.css_limits.specs.Worlds.{since_asked, earliest_received, latest_last, earliest_last, until_last}
+use Rattle.css_limits.proofs.Times.{IsDown, IsUp, down_is, up_is, longest_is, gone_is, cancel_lt}
 use Rattle.css_limits.proofs.Open.{IsOpen}
 use Rattle.css_limits.proofs.After.{earliest_after}
 

@@ -1,18 +1,18 @@
 -- The world in which the wall clock has gone as little as it can have.
-use Rattle.std.proofs.Common.{◌≡◌, ℕ, ◌+◌, ◌-◌, ◌*◌, ◌/◌, ◌≤◌, min, arith, ap, [], ◌∷◌}
+use Rattle.std.proofs.Common.{◌≡◌, ℕ, ◌+◌, ◌-◌, ◌*◌, ◌/◌, ◌≤◌, arith, ap, [], ◌∷◌}
 use Rattle.std.specs.Int.{div_ceil}
 use Rattle.std.proofs.Math.Nat.{mul-le-mul_left}
 use Rattle.css_model.specs.declared.TheConstants.{F}
 use Rattle.css_model.specs.Numbers.{IsWithin, max_error}
-use Rattle.css_model.specs.WallClock.{Answer, Local, IsLocal}
-use Rattle.css_limits.specs.Worlds.{Shown, shortest, gone, since_asked, turnaround, earliest_received}
-use Rattle.css_limits.specs.Worlds.{between_own, until_between, until_last}
+use Rattle.css_model.specs.WallClock.{Answer, Local}
+use Rattle.css_limits.specs.Worlds.{Shown, gone, since_asked, turnaround, earliest_received}
+use Rattle.css_limits.specs.Worlds.{until_between, until_last}
 use Rattle.css_limits.specs.Worlds.{earliest_first, earliest_receipt, earliest_landed, earliest_between, earliest_last}
 use Rattle.css_limits.proofs.Steps.{Goes, Goes-then, Goes-runs}
 use Rattle.css_limits.proofs.Times.{IsDown, IsUp, down_is, up_is, longest_is, IsGone, gone_is}
 use Rattle.css_limits.proofs.Lists.{Runs, InOrder, WithEach}
 use Rattle.css_limits.proofs.Open.{IsOpen, turnaround-fits}
-use Rattle.css_limits.proofs.After.{IsAfter, earliest_after}
+use Rattle.css_limits.proofs.After.{earliest_after}
 
 -- A moment before the landing, from which the wall clock goes on fast and the companion's slowly; and one after it, to
 -- which it is the other way round.
@@ -262,8 +262,7 @@ earliest_runs own answer between reading given old late =
     let t4 = between_trails own answer between reading given late in
     let t5 = last_trails own answer between reading given late in
     let from_landed : WithEach (Runs answer.error own.error) m2 (m4 ∷ m5 ∷ []) =
-    (run m2 m4 l2 t4, (run m2 m5 l2 t5, tt)) in
-    (
+    (run m2 m4 l2 t4, (run m2 m5 l2 t5, tt)) in (
       (
         first_receipt own answer given old,
         (run m0 m2 l0 t2, (run m0 m2 l0 t2, (run m0 m4 l0 t4, (run m0 m5 l0 t5, tt)))),

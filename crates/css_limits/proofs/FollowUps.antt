@@ -1,21 +1,21 @@
 -- The history of a response and its follow-up has limits.
-use Rattle.std.proofs.Common.{◌≡◌, ℕ, ◌+◌, ◌-◌, ◌≤◌, min, arith, ap, sym, ◌∙◌, subst, refl, inl, inr, [], ◌∷◌, true}
-use Rattle.std.specs.Prelude.{pos, Some, List, ⊤}
+use Rattle.std.proofs.Common.{◌≡◌, ℕ, ◌-◌, ◌≤◌, min, arith, ap, sym, ◌∙◌, subst, refl, inl, inr, [], ◌∷◌, true}
+use Rattle.std.specs.Prelude.{Some, List, ⊤}
 use Rattle.std.proofs.lemmas.Option.{MatchOption-at_some}
 use Rattle.css_model.specs.declared.Stamp.{Stamp}
 use Rattle.css_model.specs.declared.Message.{Message}
 use Rattle.css_model.specs.declared.Why.TheVariants as why
 use Rattle.css_model.specs.Numbers.{IsWithin, precision_ns}
-use Rattle.css_model.specs.WallClock.{Answer, Local}
+use Rattle.css_model.specs.WallClock.{Local}
 use Rattle.css_model.specs.World.{IsWorldFor}
 use Rattle.css_model.specs.Wire.{reading_of, stamp_of}
-use Rattle.css_model.specs.History.{Clock, Sent, Took, LandedAnswer, landed_answer, request_by, is_promise_of}
+use Rattle.css_model.specs.History.{Clock, Sent, LandedAnswer, landed_answer, request_by, is_promise_of}
 use Rattle.css_model.specs.Explains.{IsTruthful, IsJustAsked, WasAsked}
-use Rattle.css_limits.specs.Worlds.{Shown, item, world_of, declared, between_own}
+use Rattle.css_limits.specs.Worlds.{Shown, item, world_of, declared}
 use Rattle.css_limits.specs.Worlds.{latest_first, latest_transmit, latest_at, latest_last}
 use Rattle.css_limits.specs.Worlds.{earliest_first, earliest_receipt, earliest_landed, earliest_between, earliest_last}
 use Rattle.css_limits.specs.Limits.{MayShow}
-use Rattle.css_limits.specs.Histories.{Trip, taken, times, Explained}
+use Rattle.css_limits.specs.Histories.{taken, times, Explained}
 use Rattle.css_limits.specs.Histories.{Followed, IsFollowed, told_by_follow_up, FollowUpsHaveLimits}
 use Rattle.css_model.proofs.Landings.{landed_answer-is}
 use Rattle.css_limits.proofs.Lists.{is_world_of, reads_of}

@@ -7,16 +7,16 @@ use Rattle.css_model.specs.declared.Stamp.{Stamp}
 use Rattle.css_model.specs.declared.Message.{Message}
 use Rattle.css_model.specs.declared.Why.TheVariants as why
 use Rattle.css_model.specs.Numbers.{IsWithin, precision_ns, max_error}
-use Rattle.css_model.specs.WallClock.{Answer, Local, lo, hi}
-use Rattle.css_model.specs.World.{World, Errors, IsWorldFor, Reads}
+use Rattle.css_model.specs.WallClock.{Local, lo, hi}
+use Rattle.css_model.specs.World.{IsWorldFor}
 use Rattle.css_model.specs.Wire.{reading_of, stamp_of, is_same_stamp}
-use Rattle.css_model.specs.History.{Clock, Sent, Took, History, LandedAnswer, landed_answer, request_by, answer_in}
-use Rattle.css_model.specs.Explains.{Explains, IsTruthful, IsJustAsked, WasAsked}
+use Rattle.css_model.specs.History.{Clock, Sent, landed_answer, request_by}
+use Rattle.css_model.specs.Explains.{IsTruthful, IsJustAsked, WasAsked}
 use Rattle.css_limits.specs.Worlds.{Shown, item, world_of, declared}
 use Rattle.css_limits.specs.Worlds.{latest_first, latest_transmit, latest_at, latest_last}
 use Rattle.css_limits.specs.Worlds.{earliest_first, earliest_receipt, earliest_landed, earliest_between, earliest_last}
-use Rattle.css_limits.specs.Limits.{MayShow, IsDeclared, IsUsual, HasRun}
-use Rattle.css_limits.specs.Histories.{Trip, IsTrip, Told, taken, whole, times, told_by_response, Explained, HasLimits}
+use Rattle.css_limits.specs.Limits.{MayShow, IsDeclared}
+use Rattle.css_limits.specs.Histories.{Trip, IsTrip, Told, taken, times, told_by_response, Explained, HasLimits}
 use Rattle.css_limits.specs.Histories.{ResponsesHaveLimits}
 use Rattle.css_model.proofs.Landings.{landed_answer-is}
 use Rattle.css_limits.proofs.Times.{IsUp, up_is, cancel_lt}

@@ -4,10 +4,10 @@ use Rattle.std.specs.Int.{div_ceil}
 use Rattle.css_model.specs.declared.TheConstants.{F}
 use Rattle.css_model.specs.Numbers.{IsWithin, max_error}
 use Rattle.css_model.specs.WallClock.{Answer, Local, IsLocal}
-use Rattle.css_limits.specs.Worlds.{Shown, longest, shortest, gone, since_asked}
+use Rattle.css_limits.specs.Worlds.{Shown, shortest, since_asked}
 use Rattle.css_limits.specs.Worlds.{latest_first, latest_transmit, latest_at, latest_last}
 use Rattle.css_limits.proofs.Steps.{IsOnLine, IsOnLine-goes, Goes-runs}
-use Rattle.css_limits.proofs.Times.{IsDown, IsUp, down_is, up_is, longest_is, longest-mono, IsGone, gone_is}
+use Rattle.css_limits.proofs.Times.{IsDown, IsUp, down_is, up_is, longest_is, longest-mono, gone_is}
 use Rattle.css_limits.proofs.Lists.{Runs, InOrder, WithEach}
 use Rattle.css_limits.proofs.Open.{IsOpen, turnaround-fits}
 

@@ -1,18 +1,17 @@
 -- Both ends of a span are reached, but for a few nanoseconds.
 use Rattle.std.proofs.Common.{◌≡◌, ℕ, ◌+◌, ◌-◌, ◌*◌, ◌<◌, ◌≤◌, arith, ap, refl, [], ◌∷◌}
-use Rattle.std.specs.Prelude.{ℤ, pos, ◌+ℤ◌, ◌-ℤ◌, ◌≤ℤ◌, Some}
 use Rattle.std.proofs.lemmas.Int.{ints}
 use Rattle.std.proofs.Math.Nat.{mul-le-mul_left}
 use Rattle.css_model.specs.declared.TheConstants.{F}
 use Rattle.css_model.specs.Numbers.{IsWithin}
-use Rattle.css_model.specs.WallClock.{Answer, Local, IsLocal, lo, hi}
-use Rattle.css_model.specs.World.{World, Errors, IsWorldFor, Reads, RunsWithin}
-use Rattle.css_model.specs.Truth.{Exchange, IsTimed}
+use Rattle.css_model.specs.WallClock.{Answer, Local}
+use Rattle.css_model.specs.World.{RunsWithin}
+use Rattle.css_model.specs.Truth.{Exchange}
 use Rattle.css_model.proofs.Spans.{RunsWithin-more}
-use Rattle.css_limits.specs.Worlds.{Shown, declared, latest, earliest, item, latest_at}
+use Rattle.css_limits.specs.Worlds.{declared, latest, earliest, latest_at}
 use Rattle.css_limits.specs.Worlds.{latest_first, latest_transmit, latest_last}
 use Rattle.css_limits.specs.Worlds.{earliest_first, earliest_receipt, earliest_landed, earliest_between, earliest_last}
-use Rattle.css_limits.specs.Limits.{MayShow, IsDeclared, IsUsual, HasRun, Reaches, AlwaysIn}
+use Rattle.css_limits.specs.Limits.{MayShow, IsDeclared, IsUsual, HasRun}
 use Rattle.css_limits.specs.Limits.{EndsAreReached, NoneIsNarrower, UpperEndIsReached}
 use Rattle.css_limits.proofs.Lists.{is_world_of, reads_of}
 use Rattle.css_limits.proofs.Open.{IsOpen}
@@ -36,8 +35,7 @@ fits_in own error tv who pL p t1 t2 t3 t4 ta la tb wb tc wc td ld most more smal
     omega (arith, ap (λ n. n * (td - ta)) parts) in
     let inside : (F - own) * (tc - tb) ≤ (F - own) * (td - ta) = mul-le-mul_left (F - own) (omega arith) in
     let long : (F - own) * (td - ta) + F * t1 ≤ F * (t4 + 2 * pL + 1) =
-    omega (arith, split, slower.0, slower.1) in
-    (
+    omega (arith, split, slower.0, slower.1) in (
       omega (arith, long),
       (
         omega (arith, wider.0, wider.1),
@@ -175,8 +173,7 @@ pub none_is_narrower : NoneIsNarrower 4
 none_is_narrower own answer reading wall low high value told usual old may always above below =
     let ends = ends_are_reached own answer reading wall told usual old may in
     let least = always ends.least ends.may_be_least in
-    let greatest = always ends.greatest ends.may_be_greatest in
-    (
+    let greatest = always ends.greatest ends.may_be_greatest in (
       omega (arith, ints, least.0, ends.low_enough),
       omega (arith, ints, greatest.1, ends.high_enough),
     )

@@ -1,13 +1,12 @@
 -- Worlds of a list of moments: what has to be shown of each two of them.
-use Rattle.std.proofs.Common.{◌≡◌, ℕ, zero, suc, ◌+◌, ◌-◌, ◌*◌, ◌≤◌, arith, ap, refl, List, [], ◌∷◌}
+use Rattle.std.proofs.Common.{◌≡◌, ℕ, zero, suc, ◌≤◌, arith, ap, refl, List, [], ◌∷◌}
 use Rattle.std.specs.Prelude.{Some}
 use Rattle.std.proofs.lemmas.Option.{same_Some}
-use Rattle.css_model.specs.declared.TheConstants.{F}
 use Rattle.css_model.specs.Numbers.{IsWithin}
 use Rattle.css_model.specs.WallClock.{Answer, Local, IsLocal}
-use Rattle.css_model.specs.World.{OwnClock, RunsWithin, IsWorldFor, KeepsErrors, Reads}
-use Rattle.css_limits.specs.Worlds.{Shown, moment, item, world_of, declared}
-use Rattle.css_limits.proofs.Steps.{Goes, Goes-runs}
+use Rattle.css_model.specs.World.{OwnClock, RunsWithin, IsWorldFor, Reads}
+use Rattle.css_limits.specs.Worlds.{Shown, item, world_of, declared}
+use Rattle.css_limits.proofs.Steps.{Goes-runs}
 
 -- R holds between the first item and each later one
 abbrev pub WithEach : (Shown → Shown → Type 0) → Shown → List Shown → Type 0

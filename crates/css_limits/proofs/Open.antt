@@ -1,10 +1,10 @@
 -- What an exchange that can have happened leaves given, over plain numbers.
-use Rattle.std.proofs.Common.{◌≡◌, ℕ, ◌+◌, ◌-◌, ◌*◌, ◌/◌, ◌≤◌, min, arith}
+use Rattle.std.proofs.Common.{ℕ, ◌+◌, ◌-◌, ◌*◌, ◌≤◌, arith}
 use Rattle.std.proofs.Math.Nat.{mul-le-mul_left}
 use Rattle.css_model.specs.declared.TheConstants.{F}
 use Rattle.css_model.specs.Numbers.{max_error}
 use Rattle.css_model.specs.WallClock.{Answer, Local, IsLocal}
-use Rattle.css_limits.specs.Worlds.{longest, shortest, since_asked, earliest_received, turnaround}
+use Rattle.css_limits.specs.Worlds.{shortest, since_asked}
 use Rattle.css_limits.proofs.Times.{longest-ge, shortest-le}
 
 -- An exchange whose turnaround, of some true time, fits into its round trip.

@@ -1,6 +1,6 @@
 -- A wall clock that began to count with the request tells more than its answer.
-use Rattle.std.proofs.Common.{◌≡◌, ℕ, ◌+◌, ◌-◌, ◌*◌, ◌≤◌, arith, refl, [], ◌∷◌}
-use Rattle.std.specs.Prelude.{pos, ◌≤ℤ◌, List}
+use Rattle.std.proofs.Common.{◌≡◌, ℕ, ◌≤◌, arith, refl, [], ◌∷◌}
+use Rattle.std.specs.Prelude.{List}
 use Rattle.std.proofs.lemmas.Int.{ints}
 use Rattle.css_model.specs.WallClock.{lo, lower}
 use Rattle.css_limits.specs.Worlds.{Shown, declared, world_of}
@@ -16,8 +16,7 @@ young = shown 0 ∷ shown 0 ∷ shown 1000 ∷ shown 1001 ∷ []
 
 young_runs : InOrder (Runs 0 0) (shown 0) young
 young_runs =
-    let run = λ (s t : ℕ) (order : s ≤ t). exact_run s t order in
-    (
+    let run = λ (s t : ℕ) (order : s ≤ t). exact_run s t order in (
       (run 0 0 (omega arith), (run 0 0 (omega arith), (run 0 1000 (omega arith), (run 0 1001 (omega arith), tt)))),
       (
         (run 0 0 (omega arith), (run 0 1000 (omega arith), (run 0 1001 (omega arith), tt))),
@@ -72,8 +71,19 @@ counted other may =
     let exact_tv : may.errors.tv ≡ 0 = omega (arith, may.declared) in
     let own_passed = rw exact_own at clock in
     let tv_passed = rw exact_tv at wall in
-    omega (arith, own_passed.0, own_passed.1, tv_passed.0, tv_passed.1, first.near.0, first.near.1, may.reads.near.0,
-    may.reads.near.1, may.shows, keeps.order e.asked may.moment order)
+    omega (
+      arith,
+      own_passed.0,
+      own_passed.1,
+      tv_passed.0,
+      tv_passed.1,
+      first.near.0,
+      first.near.1,
+      may.reads.near.0,
+      may.reads.near.1,
+      may.shows,
+      keeps.order e.asked may.moment order,
+    )
 
 pub young_clocks_tell_more : TellsMore 1001 1001
 unfolding lo lower
