@@ -7,7 +7,7 @@ use Rattle.std.proofs.Math.Nat.{mul-le-mul_left, le_of_mul-le-mul_left}
 use borrow.Author.Differences.{same_in}
 use Rattle.css_model.specs.declared.TheConstants.{F}
 use Rattle.css_model.specs.Numbers.{floor_div, ceil_div}
-use Rattle.css_model.specs.WallClock.{Answer, Local, lo, hi, IsSpan}
+use Rattle.css_model.specs.WallClock.{Answer, Local, lo, hi}
 use Rattle.css_model.proofs.Division.{times_difference}
 use Rattle.css_model.proofs.Standard.{spans_are_the_standard}
 use Rattle.css_limits.specs.Worlds.{since_asked, earliest_received, latest_last, earliest_last, until_last}
@@ -28,7 +28,7 @@ times_natural c r m order =
 ceil_natural-le : (n d w : ℕ) → 0 < d → n ≤ d * w → ceil_div (pos n) d ≤ℤ pos w
 ceil_natural-le zero d w p h = omega (arith, ints)
 ceil_natural-le (suc m) d w p h =
-    let down : IsDown m d (m / d) = down_is m d p in
+    let down = down_is m d p in
     let below : m / d < w = cancel_lt (m / d) w d (omega (arith, down.reached)) in
     omega (arith, ints)
 
@@ -62,10 +62,10 @@ latest-high own answer reading given late =
     let beyond = reading + 2 * own.precision + 1 - answer.t1 in
     let time = since_asked own answer reading in
     let fast = F + answer.error in
-    let down : IsDown (fast * time) F (fast * time / F) = down_is (fast * time) F (omega arith) in
+    let down = down_is (fast * time) F (omega arith) in
     let is_time = longest_is own.error beyond (omega (arith, ranges.error)) in
     let bound = high_loss (F - own.error) fast beyond time (fast * time / F) (omega (arith, given.error)) is_time down in
-    let span : IsSpan own answer reading = spans_are_the_standard own answer reading ranges given.error in
+    let span = spans_are_the_standard own answer reading ranges given.error in
     let natural = times_natural fast (reading + 2 * own.precision + 1) answer.t1 (omega (arith, given.order)) in
     let rounded : ceil_div (pos fast *ℤ (pos (reading + 2 * own.precision + 1) -ℤ pos answer.t1)) (F - own.error)
     ≤ℤ pos (fast * time / F + 3) =
@@ -84,12 +84,11 @@ earliest-low own answer between reading given late =
     let slow = F - answer.error in
     let went = gone_is answer.error (answer.t3 - answer.precision - earliest_received answer) given.error in
     let clock = earliest_after own answer between reading ranges late in
-    let up : IsUp (slow * time) F (div_ceil (slow * time) F) = up_is (slow * time) F (omega arith) in
-    let down : IsDown (slow * passed) (F + own.error) (slow * passed / (F + own.error)) =
-    down_is (slow * passed) (F + own.error) (omega arith) in
+    let up = up_is (slow * time) F (omega arith) in
+    let down = down_is (slow * passed) (F + own.error) (omega arith) in
     let bound = low_loss slow (F + own.error) passed time (div_ceil (slow * time) F)
     (slow * passed / (F + own.error)) (omega arith) (omega arith) (omega (arith, clock.soon)) up down in
-    let span : IsSpan own answer reading = spans_are_the_standard own answer reading ranges given.error in
+    let span = spans_are_the_standard own answer reading ranges given.error in
     let natural = times_natural slow reading (answer.t4 + 2 * own.precision + 1) late in
     let whole : floor_div (pos slow *ℤ (pos reading -ℤ pos (answer.t4 + 2 * own.precision + 1))) (F + own.error)
     ≡ pos (slow * passed / (F + own.error)) = ap (λ (z : ℤ). floor_div z (F + own.error)) natural in

@@ -1,6 +1,5 @@
 -- The world in which the wall clock has gone as little as it can have.
-use Rattle.std.proofs.Common.{◌≡◌, ℕ, ◌+◌, ◌-◌, ◌*◌, ◌/◌, ◌≤◌, arith, ap, [], ◌∷◌}
-use Rattle.std.specs.Int.{div_ceil}
+use Rattle.std.proofs.Common.{◌≡◌, ℕ, ◌+◌, ◌-◌, ◌*◌, ◌≤◌, arith, ap, List, [], ◌∷◌}
 use Rattle.std.proofs.Math.Nat.{mul-le-mul_left}
 use Rattle.css_model.specs.declared.TheConstants.{F}
 use Rattle.css_model.specs.Numbers.{IsWithin, max_error}
@@ -8,25 +7,27 @@ use Rattle.css_model.specs.WallClock.{Answer, Local}
 use Rattle.css_limits.specs.Worlds.{Shown, gone, since_asked, turnaround, earliest_received}
 use Rattle.css_limits.specs.Worlds.{until_between, until_last}
 use Rattle.css_limits.specs.Worlds.{earliest_first, earliest_receipt, earliest_landed, earliest_between, earliest_last}
+use Rattle.css_limits.specs.Limits.{HasRun}
 use Rattle.css_limits.proofs.Steps.{Goes, Goes-then, Goes-runs}
-use Rattle.css_limits.proofs.Times.{IsDown, IsUp, down_is, up_is, longest_is, IsGone, gone_is}
+use Rattle.css_limits.proofs.Times.{down_is, up_is, longest_is, IsGone, gone_is}
 use Rattle.css_limits.proofs.Lists.{Runs, InOrder, WithEach}
 use Rattle.css_limits.proofs.Open.{IsOpen, turnaround-fits}
 use Rattle.css_limits.proofs.After.{earliest_after}
 
--- A moment before the landing, from which the wall clock goes on fast and the companion's slowly; and one after it, to
--- which it is the other way round.
-pub record Leads (tv own : ℕ) (m landed : Shown) : Type 0 where
+-- From one moment to another the wall clock may fall short by `low` and go beyond by `high`, and the companion's the
+-- other way round.
+pub record Leans (tv own low high : ℕ) (m n : Shown) : Type 0 where
   pub passed : ℕ
-  pub after : landed.time ≡ m.time + passed
-  pub wall : Goes tv 0 F passed m.wall landed.wall
-  pub clock : Goes own F 0 passed m.own landed.own
+  pub after : n.time ≡ m.time + passed
+  pub wall : Goes tv low high passed m.wall n.wall
+  pub clock : Goes own high low passed m.own n.own
 
-pub record Trails (tv own : ℕ) (landed n : Shown) : Type 0 where
-  pub passed : ℕ
-  pub after : n.time ≡ landed.time + passed
-  pub wall : Goes tv F 0 passed landed.wall n.wall
-  pub clock : Goes own 0 F passed landed.own n.own
+-- Up to the landing the wall clock goes on fast and the companion's slowly, and after it the other way round.
+abbrev pub Leads : (tv own : ℕ) (m landed : Shown) → Type 0
+Leads tv own m landed = Leans tv own 0 F m landed
+
+abbrev pub Trails : (tv own : ℕ) (landed n : Shown) → Type 0
+Trails tv own landed n = Leans tv own F 0 landed n
 
 -- over the landing the clocks keep the errors
 over : (tv own : ℕ) (m landed n : Shown) → Leads tv own m landed → Trails tv own landed n → Runs tv own m n
@@ -40,16 +41,8 @@ over tv own m landed n a b =
           (Goes-then own F 0 0 F a.passed b.passed m.own landed.own n.own a.clock b.clock);
     }
 
-landed_leads : (tv own : ℕ) (m : Shown) → Leads tv own m m
-landed_leads tv own m = record {
-  passed = 0;
-  after = omega arith;
-  wall = record { least = omega arith; most = omega arith };
-  clock = record { least = omega arith; most = omega arith };
-}
-
-landed_trails : (tv own : ℕ) (m : Shown) → Trails tv own m m
-landed_trails tv own m = record {
+still : (tv own low high : ℕ) (m : Shown) → Leans tv own low high m m
+still tv own low high m = record {
   passed = 0;
   after = omega arith;
   wall = record { least = omega arith; most = omega arith };
@@ -62,40 +55,6 @@ behind error time small =
     let parts : F - error + error ≡ F = omega arith in
     omega (arith, ap (λ n. n * time) parts)
 
--- The wall clock's premise: it shows at least the longest true time of the round trip when the request comes.
-abbrev pub IsOld : Local → Answer → Type 0
-IsOld own answer = since_asked own answer answer.t4 ≤ answer.t2 - answer.precision
-
--- what the companion's clock shows at the sending and at the receipt
-record RoundTrip (error rest turn first receipt landed : ℕ) : Type 0 where
-  first_least : F * first + (F - error) * (rest + turn) ≤ F * landed + F
-  first_most : F * landed ≤ F * first + (F - error) * (rest + turn)
-  receipt_least : F * receipt + (F - error) * turn ≤ F * landed + F
-  receipt_most : F * landed ≤ F * receipt + (F - error) * turn
-
-round_trip : (own : Local) (answer : Answer) → IsOpen own answer
-    → RoundTrip own.error (since_asked own answer answer.t4 - turnaround answer) (turnaround answer)
-    (answer.t1 - own.precision)
-    (answer.t4 + own.precision - (F - own.error) * turnaround answer / F) (answer.t4 + own.precision)
-round_trip own answer given =
-    let ranges = given.ranges in
-    let x = turnaround answer in
-    let s = since_asked own answer answer.t4 in
-    let fits : x ≤ s =
-    turnaround-fits own answer (answer.t3 - answer.precision - earliest_received answer) given (omega arith) in
-    let longest = longest_is own.error (answer.t4 + 2 * own.precision + 1 - answer.t1) (omega (arith, ranges.error)) in
-    let whole : s - x + x ≡ s = omega arith in
-    let same : (F - own.error) * (s - x + x) ≡ (F - own.error) * s = ap (λ n. (F - own.error) * n) whole in
-    let down : IsDown ((F - own.error) * x) F ((F - own.error) * x / F) =
-    down_is ((F - own.error) * x) F (omega arith) in
-    let part : (F - own.error) * x ≤ (F - own.error) * s = mul-le-mul_left (F - own.error) fits in
-    record {
-      first_least = omega (arith, longest.reached, same, given.t1, given.order);
-      first_most = omega (arith, longest.greatest, same, given.t1, given.order);
-      receipt_least = omega (arith, longest.reached, part, down.greatest, given.t1, given.order);
-      receipt_most = omega (arith, down.reached);
-    }
-
 -- the wall clock while the television answers
 answered : (answer : Answer) → answer.error ≤ max_error
     → IsGone answer.error (answer.t3 - answer.precision - earliest_received answer) (turnaround answer)
@@ -103,19 +62,16 @@ answered : (answer : Answer) → answer.error ≤ max_error
 answered answer most = gone_is answer.error (answer.t3 - answer.precision - earliest_received answer) most
 
 -- the moments before the landing
-first_leads : (own : Local) (answer : Answer) → IsOpen own answer → IsOld own answer
+first_leads : (own : Local) (answer : Answer) → IsOpen own answer → HasRun own answer
     → Leads answer.error own.error (earliest_first own answer) (earliest_landed own answer)
 first_leads own answer given old =
-    let ranges = given.ranges in
+    let small = given.ranges.error in
     let x = turnaround answer in
     let s = since_asked own answer answer.t4 in
-    let fits : x ≤ s =
-    turnaround-fits own answer (answer.t3 - answer.precision - earliest_received answer) given (omega arith) in
+    let fits = turnaround-fits own answer (answer.t3 - answer.precision - earliest_received answer) given (omega arith) in
     let went = answered answer given.error in
-    let clock = round_trip own answer given in
-    let whole : s - x + x ≡ s = omega arith in
-    let same : (F - own.error) * (s - x + x) ≡ (F - own.error) * s = ap (λ n. (F - own.error) * n) whole in
-    let slow = behind own.error s (omega (arith, ranges.error)) in
+    let longest = longest_is own.error (answer.t4 + 2 * own.precision + 1 - answer.t1) (omega (arith, small)) in
+    let slow = behind own.error s (omega (arith, small)) in
     let part : answer.error * x ≤ answer.error * s = mul-le-mul_left answer.error fits in
     let begun : s - x ≤ earliest_received answer = omega (arith, given.t2, given.t3) in
     record {
@@ -123,41 +79,47 @@ first_leads own answer given old =
       after = omega arith;
       wall = record { least = omega (arith, went.fast); most = omega (arith, went.near, part) };
       clock = record {
-        least = omega (arith, clock.first_least, same, slow);
-        most = omega (arith, clock.first_most, same, slow);
+        least = omega (arith, longest.reached, slow, given.t1, given.order);
+        most = omega (arith, longest.greatest, slow, given.t1, given.order);
       };
     }
 
 receipt_leads : (own : Local) (answer : Answer) → IsOpen own answer
     → Leads answer.error own.error (earliest_receipt own answer) (earliest_landed own answer)
 receipt_leads own answer given =
-    let ranges = given.ranges in
+    let small = given.ranges.error in
     let x = turnaround answer in
-    let fits : x ≤ since_asked own answer answer.t4 =
-    turnaround-fits own answer (answer.t3 - answer.precision - earliest_received answer) given (omega arith) in
+    let fits = turnaround-fits own answer (answer.t3 - answer.precision - earliest_received answer) given (omega arith) in
     let went = answered answer given.error in
-    let clock = round_trip own answer given in
-    let slow = behind own.error x (omega (arith, ranges.error)) in
+    let longest = longest_is own.error (answer.t4 + 2 * own.precision + 1 - answer.t1) (omega (arith, small)) in
+    let part = mul-le-mul_left (F - own.error) fits in
+    let down = down_is ((F - own.error) * x) F (omega arith) in
+    let slow = behind own.error x (omega (arith, small)) in
     record {
       passed = x;
       after = omega arith;
       wall = record { least = omega (arith, went.fast); most = omega (arith, went.near) };
       clock = record {
-        least = omega (arith, clock.receipt_least, slow);
-        most = omega (arith, clock.receipt_most, slow);
+        least = omega (arith, longest.reached, part, down.greatest, slow, given.t1, given.order);
+        most = omega (arith, down.reached, slow);
       };
     }
 
 -- from the sending to the receipt
-first_receipt : (own : Local) (answer : Answer) → IsOpen own answer → IsOld own answer
+first_receipt : (own : Local) (answer : Answer) → IsOpen own answer → HasRun own answer
     → Runs answer.error own.error (earliest_first own answer) (earliest_receipt own answer)
 first_receipt own answer given old =
-    let ranges = given.ranges in
+    let small = given.ranges.error in
     let x = turnaround answer in
     let s = since_asked own answer answer.t4 in
     let u = s - x in
-    let clock = round_trip own answer given in
-    let slow = behind own.error u (omega (arith, ranges.error)) in
+    let fits = turnaround-fits own answer (answer.t3 - answer.precision - earliest_received answer) given (omega arith) in
+    let longest = longest_is own.error (answer.t4 + 2 * own.precision + 1 - answer.t1) (omega (arith, small)) in
+    let part = mul-le-mul_left (F - own.error) fits in
+    let down = down_is ((F - own.error) * x) F (omega arith) in
+    let slow = behind own.error u (omega (arith, small)) in
+    let whole : u + x ≡ s = omega arith in
+    let same : (F - own.error) * (u + x) ≡ (F - own.error) * s = ap (λ n. (F - own.error) * n) whole in
     let begun : u ≤ earliest_received answer = omega (arith, given.t2, given.t3) in
     record {
       order = omega arith;
@@ -165,8 +127,8 @@ first_receipt own answer given old =
           (omega arith) (omega arith) (record { least = omega arith; most = omega arith });
       own = Goes-runs own.error F F u 0 u (earliest_first own answer).own (earliest_receipt own answer).own (omega arith)
           (omega arith) (omega arith) (record {
-            least = omega (arith, clock.first_least, clock.receipt_most, slow);
-            most = omega (arith, clock.first_most, clock.receipt_least, slow);
+            least = omega (arith, longest.reached, same, down.reached, slow, given.t1, given.order);
+            most = omega (arith, longest.greatest, longest.reached, same, part, down.greatest, slow, given.t1, given.order);
           });
     }
 
@@ -178,8 +140,7 @@ between_trails own answer between reading given late =
     let passed = until_between own answer between reading in
     let clock = earliest_after own answer between reading given.ranges late in
     let slow = behind answer.error passed (omega (arith, given.error)) in
-    let down : IsDown ((F - answer.error) * passed) F ((F - answer.error) * passed / F) =
-    down_is ((F - answer.error) * passed) F (omega arith) in
+    let down = down_is ((F - answer.error) * passed) F (omega arith) in
     record {
       passed = passed;
       after = omega arith;
@@ -197,8 +158,7 @@ last_trails own answer between reading given late =
     let passed = until_last own answer between reading in
     let clock = earliest_after own answer between reading given.ranges late in
     let slow = behind answer.error passed (omega (arith, given.error)) in
-    let up : IsUp ((F - answer.error) * passed) F (div_ceil ((F - answer.error) * passed) F) =
-    up_is ((F - answer.error) * passed) F (omega arith) in
+    let up = up_is ((F - answer.error) * passed) F (omega arith) in
     record {
       passed = passed;
       after = omega arith;
@@ -219,8 +179,8 @@ between_last own answer between reading given late =
     let long = until_last own answer between reading in
     let clock = earliest_after own answer between reading given.ranges late in
     let slope = F - answer.error in
-    let down : IsDown (slope * short) F (slope * short / F) = down_is (slope * short) F (omega arith) in
-    let up : IsUp (slope * long) F (div_ceil (slope * long) F) = up_is (slope * long) F (omega arith) in
+    let down = down_is (slope * short) F (omega arith) in
+    let up = up_is (slope * long) F (omega arith) in
     let whole : short + (long - short) ≡ long = omega (arith, clock.order) in
     let same : slope * (short + (long - short)) ≡ slope * long = ap (λ n. slope * n) whole in
     let slow = behind answer.error (long - short) (omega (arith, given.error)) in
@@ -241,12 +201,16 @@ between_last own answer between reading given late =
           });
     }
 
--- the moments of the earliest world are in order
-pub earliest_runs : (own : Local) (answer : Answer) (between reading : ℕ) → IsOpen own answer → IsOld own answer
+-- the moments of the earliest world behind the first
+abbrev pub earliest_later : Local → Answer → (between reading : ℕ) → List Shown
+earliest_later own answer between reading =
+    earliest_receipt own answer ∷ earliest_landed own answer ∷ earliest_landed own answer
+    ∷ earliest_between own answer between reading ∷ earliest_last own answer between reading ∷ []
+
+-- they are in order
+pub earliest_runs : (own : Local) (answer : Answer) (between reading : ℕ) → IsOpen own answer → HasRun own answer
     → answer.t4 + 2 * own.precision + 1 ≤ reading
-    → InOrder (Runs answer.error own.error) (earliest_first own answer)
-    (earliest_receipt own answer ∷ earliest_landed own answer ∷ earliest_landed own answer
-    ∷ earliest_between own answer between reading ∷ earliest_last own answer between reading ∷ [])
+    → InOrder (Runs answer.error own.error) (earliest_first own answer) (earliest_later own answer between reading)
 earliest_runs own answer between reading given old late =
     let m0 = earliest_first own answer in
     let m1 = earliest_receipt own answer in
@@ -257,8 +221,8 @@ earliest_runs own answer between reading given old late =
     over answer.error own.error m m2 n a b in
     let l0 = first_leads own answer given old in
     let l1 = receipt_leads own answer given in
-    let l2 = landed_leads answer.error own.error m2 in
-    let t2 = landed_trails answer.error own.error m2 in
+    let l2 = still answer.error own.error 0 F m2 in
+    let t2 = still answer.error own.error F 0 m2 in
     let t4 = between_trails own answer between reading given late in
     let t5 = last_trails own answer between reading given late in
     let from_landed : WithEach (Runs answer.error own.error) m2 (m4 ∷ m5 ∷ []) =
@@ -276,11 +240,7 @@ earliest_runs own answer between reading given old late =
       ),
     )
 
--- the receive and transmit values read the wall clock
-pub earliest_receipt-near : (own : Local) (answer : Answer) → IsOpen own answer
-    → IsWithin answer.precision answer.t2 (earliest_receipt own answer).wall
-earliest_receipt-near own answer given = omega (arith, given.t2, given.t3)
-
+-- the transmit value reads the wall clock
 pub earliest_transmit-near : (own : Local) (answer : Answer) → IsOpen own answer
     → IsWithin answer.precision answer.t3 (earliest_landed own answer).wall
 earliest_transmit-near own answer given =

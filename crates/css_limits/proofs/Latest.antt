@@ -1,13 +1,12 @@
 -- The world in which the wall clock has gone as far as it can have.
-use Rattle.std.proofs.Common.{◌≡◌, ℕ, ◌+◌, ◌-◌, ◌*◌, ◌/◌, ◌<◌, ◌≤◌, arith, [], ◌∷◌}
-use Rattle.std.specs.Int.{div_ceil}
+use Rattle.std.proofs.Common.{◌≡◌, ℕ, ◌+◌, ◌-◌, ◌*◌, ◌<◌, ◌≤◌, arith, List, [], ◌∷◌}
 use Rattle.css_model.specs.declared.TheConstants.{F}
 use Rattle.css_model.specs.Numbers.{IsWithin, max_error}
 use Rattle.css_model.specs.WallClock.{Answer, Local, IsLocal}
 use Rattle.css_limits.specs.Worlds.{Shown, shortest, since_asked}
 use Rattle.css_limits.specs.Worlds.{latest_first, latest_transmit, latest_at, latest_last}
 use Rattle.css_limits.proofs.Steps.{IsOnLine, IsOnLine-goes, Goes-runs}
-use Rattle.css_limits.proofs.Times.{IsDown, IsUp, down_is, up_is, longest_is, longest-mono, gone_is}
+use Rattle.css_limits.proofs.Times.{down_is, up_is, longest_is, longest-mono, gone_is}
 use Rattle.css_limits.proofs.Lists.{Runs, InOrder, WithEach}
 use Rattle.css_limits.proofs.Open.{IsOpen, turnaround-fits}
 
@@ -45,8 +44,7 @@ transmit_on own answer most =
     let passed = answer.t3 - answer.precision - (answer.t2 + answer.precision) in
     let went = gone_is answer.error passed most in
     let time = shortest answer.error passed in
-    let down : IsDown ((F - own.error) * time) F ((F - own.error) * time / F) =
-    down_is ((F - own.error) * time) F (omega arith) in
+    let down = down_is ((F - own.error) * time) F (omega arith) in
     record {
       wall = record { below = omega (arith, went.near); above = omega (arith, went.fast) };
       clock = record { below = omega (arith, down.reached); above = omega (arith, down.greatest) };
@@ -66,8 +64,7 @@ at_on : (own : Local) (answer : Answer) (reading : ℕ) → IsLocal own → own.
 unfolding latest_at
 at_on own answer reading ranges early order =
     let time = since_asked own answer reading in
-    let up : IsUp ((F + answer.error) * time) F (div_ceil ((F + answer.error) * time) F) =
-    up_is ((F + answer.error) * time) F (omega arith) in
+    let up = up_is ((F + answer.error) * time) F (omega arith) in
     record {
       wall = record { below = omega (arith, up.least); above = omega (arith, up.reached) };
       clock = own_at own answer reading ranges early order;
@@ -77,19 +74,22 @@ last_on : (own : Local) (answer : Answer) (reading : ℕ) → IsLocal own → ow
     → answer.t1 ≤ reading + 2 * own.precision + 1 → OnLines own answer (latest_last own answer reading)
 last_on own answer reading ranges early order =
     let time = since_asked own answer reading in
-    let down : IsDown ((F + answer.error) * time) F ((F + answer.error) * time / F) =
-    down_is ((F + answer.error) * time) F (omega arith) in
+    let down = down_is ((F + answer.error) * time) F (omega arith) in
     record {
       wall = record { below = omega (arith, down.reached); above = omega (arith, down.greatest) };
       clock = own_at own answer reading ranges early order;
     }
 
--- the moments of the latest world are in order
+-- the moments of the latest world behind the first
+abbrev pub latest_later : Local → Answer → (between reading : ℕ) → List Shown
+latest_later own answer between reading =
+    latest_first own answer ∷ latest_transmit own answer ∷ latest_at own answer answer.t4
+    ∷ latest_at own answer between ∷ latest_last own answer reading ∷ []
+
+-- they are in order
 pub latest_runs : (own : Local) (answer : Answer) (between reading : ℕ) → IsOpen own answer
     → answer.t4 ≤ between → between ≤ reading
-    → InOrder (Runs answer.error own.error) (latest_first own answer)
-    (latest_first own answer ∷ latest_transmit own answer ∷ latest_at own answer answer.t4
-    ∷ latest_at own answer between ∷ latest_last own answer reading ∷ [])
+    → InOrder (Runs answer.error own.error) (latest_first own answer) (latest_later own answer between reading)
 unfolding latest_at
 latest_runs own answer between reading given later last =
     let ranges = given.ranges in

@@ -8,6 +8,5 @@ pub mod Earliest
 pub mod Bounds
 pub mod Limits
 pub mod Histories
-pub mod FollowUps
 pub mod Young
 pub mod Worked

@@ -1,22 +1,21 @@
 -- Both ends of a span are reached, but for a few nanoseconds.
-use Rattle.std.proofs.Common.{◌≡◌, ℕ, ◌+◌, ◌-◌, ◌*◌, ◌<◌, ◌≤◌, arith, ap, refl, [], ◌∷◌}
+use Rattle.std.proofs.Common.{◌≡◌, ℕ, ◌+◌, ◌-◌, ◌*◌, ◌<◌, ◌≤◌, arith, ap, refl, List}
 use Rattle.std.proofs.lemmas.Int.{ints}
 use Rattle.std.proofs.Math.Nat.{mul-le-mul_left}
 use Rattle.css_model.specs.declared.TheConstants.{F}
 use Rattle.css_model.specs.Numbers.{IsWithin}
 use Rattle.css_model.specs.WallClock.{Answer, Local}
-use Rattle.css_model.specs.World.{RunsWithin}
-use Rattle.css_model.specs.Truth.{Exchange}
+use Rattle.css_model.specs.World.{RunsWithin, IsWorldFor}
 use Rattle.css_model.proofs.Spans.{RunsWithin-more}
-use Rattle.css_limits.specs.Worlds.{declared, latest, earliest, latest_at}
-use Rattle.css_limits.specs.Worlds.{latest_first, latest_transmit, latest_last}
-use Rattle.css_limits.specs.Worlds.{earliest_first, earliest_receipt, earliest_landed, earliest_between, earliest_last}
+use Rattle.css_limits.specs.Worlds.{Shown, item, world_of, declared, latest_at}
+use Rattle.css_limits.specs.Worlds.{latest_first, latest_last, earliest_first, earliest_last}
 use Rattle.css_limits.specs.Limits.{MayShow, IsDeclared, IsUsual, HasRun}
 use Rattle.css_limits.specs.Limits.{EndsAreReached, NoneIsNarrower, UpperEndIsReached}
 use Rattle.css_limits.proofs.Lists.{is_world_of, reads_of}
 use Rattle.css_limits.proofs.Open.{IsOpen}
-use Rattle.css_limits.proofs.Latest.{latest_runs, latest_transmit-near}
-use Rattle.css_limits.proofs.Earliest.{earliest_runs, earliest_receipt-near, earliest_transmit-near}
+use Rattle.css_limits.proofs.Latest.{latest_later, latest_runs, latest_transmit-near}
+use Rattle.css_limits.proofs.Earliest.{earliest_later, earliest_runs, earliest_transmit-near}
+use Rattle.css_limits.proofs.After.{between_own-near}
 use Rattle.css_limits.proofs.Bounds.{latest-high, earliest-low}
 
 -- what two clocks of a world show of an exchange: its turnaround fits into its round trip
@@ -81,93 +80,98 @@ open_of own answer reading wall told usual may =
       fits = found.1.1;
     }
 
--- the exchange of both worlds, by the numbers of its moments
-abbrev numbered : Exchange
-numbered = record { asked = 0; received = 1; transmitted = 2; landed = 3 }
+-- A world of six moments has an exchange with the answer's times, and its last two read the companion's clock.
+pub record Fits (own : Local) (answer : Answer) (between reading : ℕ) (first : Shown) (later : List Shown) : Type 0 where
+  pub is_world : (who : ℕ) → IsWorldFor (declared own answer) (world_of first later) who own
+  pub t1 : IsWithin own.precision answer.t1 (item first later 0).own
+  pub t2 : IsWithin answer.precision answer.t2 (item first later 1).wall
+  pub t3 : IsWithin answer.precision answer.t3 (item first later 2).wall
+  pub t4 : IsWithin own.precision answer.t4 (item first later 3).own
+  pub before_last : IsWithin own.precision between (item first later 4).own
+  pub last : IsWithin own.precision reading (item first later 5).own
 
--- the wall clock may show the greatest value
-may_be_latest : (own : Local) (answer : Answer) (reading : ℕ) → IsOpen own answer → answer.t4 ≤ reading
-    → MayShow own answer reading (latest_last own answer reading).wall
+-- so the last wall clock may be shown
+pub may_be : (own : Local) (answer : Answer) (between reading : ℕ) (first : Shown) (later : List Shown)
+    → Fits own answer between reading first later → MayShow own answer reading (item first later 5).wall
+may_be own answer between reading first later fits = record {
+  errors = declared own answer;
+  world = world_of first later;
+  who = 1;
+  exchange = record { asked = 0; received = 1; transmitted = 2; landed = 3 };
+  sleeps = 0;
+  moment = 5;
+  is_world = fits.is_world 1;
+  declared = omega arith;
+  timed = record {
+    received_later = omega arith;
+    transmitted_later = omega arith;
+    landed_later = omega arith;
+    t1 = reads_of 1 own.precision answer.t1 0 first later fits.t1;
+    t2 = fits.t2;
+    t3 = fits.t3;
+    t4 = reads_of 1 own.precision answer.t4 3 first later fits.t4;
+  };
+  later = omega arith;
+  reads = reads_of 1 own.precision reading 5 first later fits.last;
+  shows = refl;
+}
+
+-- the latest world is such a world
+pub latest_fits : (own : Local) (answer : Answer) (between reading : ℕ) → IsOpen own answer
+    → answer.t4 ≤ between → between ≤ reading
+    → Fits own answer between reading (latest_first own answer) (latest_later own answer between reading)
 unfolding latest_at
-may_be_latest own answer reading given late =
-    let first = latest_first own answer in
-    let later = latest_first own answer ∷ latest_transmit own answer ∷ latest_at own answer answer.t4
-    ∷ latest_at own answer answer.t4 ∷ latest_last own answer reading ∷ [] in
-    let runs = latest_runs own answer answer.t4 reading given (omega arith) late in
-    record {
-      errors = declared own answer;
-      world = latest own answer answer.t4 reading;
-      who = 1;
-      exchange = numbered;
-      sleeps = 0;
-      moment = 5;
-      is_world = is_world_of own answer 1 first later given.ranges runs;
-      declared = omega arith;
-      timed = record {
-        received_later = omega arith;
-        transmitted_later = omega arith;
-        landed_later = omega arith;
-        t1 = reads_of 1 own.precision answer.t1 0 first later (omega (arith, given.t1));
-        t2 = omega arith;
-        t3 = latest_transmit-near own answer given;
-        t4 = reads_of 1 own.precision answer.t4 3 first later (omega arith);
-      };
-      later = omega arith;
-      reads = reads_of 1 own.precision reading 5 first later (omega arith);
-      shows = refl;
-    }
+latest_fits own answer between reading given low high = record {
+  is_world = λ who. is_world_of own answer who (latest_first own answer) (latest_later own answer between reading)
+      given.ranges (latest_runs own answer between reading given low high);
+  t1 = omega (arith, given.t1);
+  t2 = omega arith;
+  t3 = latest_transmit-near own answer given;
+  t4 = omega arith;
+  before_last = omega arith;
+  last = omega arith;
+}
 
--- and the least
-may_be_earliest : (own : Local) (answer : Answer) (reading : ℕ) → IsOpen own answer → HasRun own answer
-    → answer.t4 + 2 * own.precision + 1 ≤ reading
-    → MayShow own answer reading (earliest_last own answer answer.t4 reading).wall
-may_be_earliest own answer reading given old late =
-    let first = earliest_first own answer in
-    let later = earliest_receipt own answer ∷ earliest_landed own answer ∷ earliest_landed own answer
-    ∷ earliest_between own answer answer.t4 reading ∷ earliest_last own answer answer.t4 reading ∷ [] in
-    let runs = earliest_runs own answer answer.t4 reading given old late in
-    record {
-      errors = declared own answer;
-      world = earliest own answer answer.t4 reading;
-      who = 1;
-      exchange = numbered;
-      sleeps = 0;
-      moment = 5;
-      is_world = is_world_of own answer 1 first later given.ranges runs;
-      declared = omega arith;
-      timed = record {
-        received_later = omega arith;
-        transmitted_later = omega arith;
-        landed_later = omega arith;
-        t1 = reads_of 1 own.precision answer.t1 0 first later (omega (arith, given.t1));
-        t2 = earliest_receipt-near own answer given;
-        t3 = earliest_transmit-near own answer given;
-        t4 = reads_of 1 own.precision answer.t4 3 first later (omega arith);
-      };
-      later = omega arith;
-      reads = reads_of 1 own.precision reading 5 first later (omega (arith, late));
-      shows = refl;
-    }
+-- and so is the earliest
+pub earliest_fits : (own : Local) (answer : Answer) (between reading : ℕ) → IsOpen own answer → HasRun own answer
+    → answer.t4 ≤ between → between ≤ reading → answer.t4 + 2 * own.precision + 1 ≤ reading
+    → Fits own answer between reading (earliest_first own answer) (earliest_later own answer between reading)
+earliest_fits own answer between reading given old low high late = record {
+  is_world = λ who. is_world_of own answer who (earliest_first own answer) (earliest_later own answer between reading)
+      given.ranges (earliest_runs own answer between reading given old late);
+  t1 = omega (arith, given.t1);
+  t2 = omega (arith, given.t2, given.t3);
+  t3 = earliest_transmit-near own answer given;
+  t4 = omega arith;
+  before_last = between_own-near own answer between reading low high late;
+  last = omega (arith, late);
+}
+
+pub upper_end_is_reached : UpperEndIsReached 4
+upper_end_is_reached own answer reading wall told usual may =
+    let given = open_of own answer reading wall told usual may in
+    let late : answer.t4 ≤ reading = omega (arith, usual.late) in (
+      (latest_last own answer reading).wall,
+      may_be own answer answer.t4 reading (latest_first own answer) (latest_later own answer answer.t4 reading)
+          (latest_fits own answer answer.t4 reading given (omega arith) late),
+      latest-high own answer reading given late,
+    )
 
 pub ends_are_reached : EndsAreReached 4
 ends_are_reached own answer reading wall told usual old may =
     let given = open_of own answer reading wall told usual may in
+    let upper = upper_end_is_reached own answer reading wall told usual may in
     record {
       least = (earliest_last own answer answer.t4 reading).wall;
-      may_be_least = may_be_earliest own answer reading given old usual.late;
+      may_be_least =
+          may_be own answer answer.t4 reading (earliest_first own answer)
+          (earliest_later own answer answer.t4 reading)
+          (earliest_fits own answer answer.t4 reading given old (omega arith) (omega (arith, usual.late)) usual.late);
       low_enough = earliest-low own answer answer.t4 reading given usual.late;
-      greatest = (latest_last own answer reading).wall;
-      may_be_greatest = may_be_latest own answer reading given (omega (arith, usual.late));
-      high_enough = latest-high own answer reading given (omega (arith, usual.late));
+      greatest = upper.0;
+      may_be_greatest = upper.1;
+      high_enough = upper.2;
     }
-
-pub upper_end_is_reached : UpperEndIsReached 4
-upper_end_is_reached own answer reading wall told usual may =
-    let given = open_of own answer reading wall told usual may in (
-      (latest_last own answer reading).wall,
-      may_be_latest own answer reading given (omega (arith, usual.late)),
-      latest-high own answer reading given (omega (arith, usual.late)),
-    )
 
 pub none_is_narrower : NoneIsNarrower 4
 none_is_narrower own answer reading wall low high value told usual old may always above below =

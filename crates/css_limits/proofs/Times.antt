@@ -89,7 +89,7 @@ gone_is error passed most =
     let time = shortest_is error passed in
     let short = shortest-below error passed in
     let little : error * x ≤ max_error * x = mul-le-mul_right x most in
-    let up : IsUp ((F + error) * x) F c = up_is ((F + error) * x) F (omega arith) in
+    let up = up_is ((F + error) * x) F (omega arith) in
     record {
       fast = omega (arith, up.reached);
       near = omega (arith, up.least, time.reached);

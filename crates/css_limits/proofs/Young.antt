@@ -1,11 +1,12 @@
 -- A wall clock that began to count with the request tells more than its answer.
-use Rattle.std.proofs.Common.{◌≡◌, ℕ, ◌≤◌, arith, refl, [], ◌∷◌}
+use Rattle.std.proofs.Common.{◌≡◌, ℕ, ◌≤◌, arith, [], ◌∷◌}
 use Rattle.std.specs.Prelude.{List}
 use Rattle.std.proofs.lemmas.Int.{ints}
 use Rattle.css_model.specs.WallClock.{lo, lower}
-use Rattle.css_limits.specs.Worlds.{Shown, declared, world_of}
+use Rattle.css_limits.specs.Worlds.{Shown}
 use Rattle.css_limits.specs.Limits.{MayShow, TellsMore, young_answer, exact}
-use Rattle.css_limits.proofs.Lists.{is_world_of, reads_of, Runs, InOrder}
+use Rattle.css_limits.proofs.Lists.{is_world_of, Runs, InOrder}
+use Rattle.css_limits.proofs.Limits.{Fits, may_be}
 
 -- exact clocks, which both count from the request's sending on, when it was received and answered at once
 abbrev pub shown : ℕ → Shown
@@ -30,30 +31,17 @@ young_runs =
     exact_run : (s t : ℕ) → s ≤ t → Runs 0 0 (shown s) (shown t)
     exact_run s t order = record { order = order; tv = omega arith; own = omega arith }
 
-young_may : MayShow exact young_answer 1001 1001
-young_may = record {
-  errors = declared exact young_answer;
-  world = world_of (shown 0) young;
-  who = 1;
-  exchange = record { asked = 0; received = 1; transmitted = 2; landed = 3 };
-  sleeps = 0;
-  moment = 4;
-  is_world =
-      is_world_of exact young_answer 1 (shown 0) young (record { error = omega arith; precision = omega arith })
+young_fits : Fits exact young_answer 1001 1001 (shown 0) young
+young_fits = record {
+  is_world = λ who.
+      is_world_of exact young_answer who (shown 0) young (record { error = omega arith; precision = omega arith })
       young_runs;
-  declared = omega arith;
-  timed = record {
-    received_later = omega arith;
-    transmitted_later = omega arith;
-    landed_later = omega arith;
-    t1 = reads_of 1 0 0 0 (shown 0) young (omega arith);
-    t2 = omega arith;
-    t3 = omega arith;
-    t4 = reads_of 1 0 1000 3 (shown 0) young (omega arith);
-  };
-  later = omega arith;
-  reads = reads_of 1 0 1001 4 (shown 0) young (omega arith);
-  shows = refl;
+  t1 = omega arith;
+  t2 = omega arith;
+  t3 = omega arith;
+  t4 = omega arith;
+  before_last = omega arith;
+  last = omega arith;
 }
 
 -- the wall clock has counted since the request
@@ -71,19 +59,7 @@ counted other may =
     let exact_tv : may.errors.tv ≡ 0 = omega (arith, may.declared) in
     let own_passed = rw exact_own at clock in
     let tv_passed = rw exact_tv at wall in
-    omega (
-      arith,
-      own_passed.0,
-      own_passed.1,
-      tv_passed.0,
-      tv_passed.1,
-      first.near.0,
-      first.near.1,
-      may.reads.near.0,
-      may.reads.near.1,
-      may.shows,
-      keeps.order e.asked may.moment order,
-    )
+    omega (arith, own_passed, tv_passed, first.near, may.reads.near, may.shows, keeps.order e.asked may.moment order)
 
 pub young_clocks_tell_more : TellsMore 1001 1001
 unfolding lo lower
@@ -95,7 +71,7 @@ young_clocks_tell_more = record {
     t3 = omega arith;
     late = omega arith;
   };
-  may_show = young_may;
+  may_show = may_be exact young_answer 1001 1001 (shown 0) young young_fits;
   low_end = omega (arith, ints);
   counted = counted;
 }
