@@ -1,7 +1,5 @@
 -- The companion's clock from the landing on, when it runs at its fastest.
-use Rattle.std.proofs.Common.{◌≡◌, ℕ, ◌+◌, ◌-◌, ◌*◌, ◌<◌, ◌≤◌, min, max, arith, refl, Bool, true, false}
-use Rattle.std.specs.Prelude.{nat_lt}
-use Rattle.std.proofs.lemmas.Bool.{ltb-true, ltb-false}
+use Rattle.std.proofs.Common.{◌≡◌, ℕ, ◌+◌, ◌-◌, ◌*◌, ◌<◌, ◌≤◌, min, max, arith}
 use Rattle.std.proofs.Math.Nat.{mul-le-mul_left, mul-le-mul_right}
 use Rattle.css_model.specs.declared.TheConstants.{F}
 use Rattle.css_model.specs.Numbers.{max_local_error}
@@ -24,17 +22,7 @@ pub record IsAfter (error from middle to short long : ℕ) : Type 0 where
 
 -- what is below a bound for each of two numbers is below it for the greater
 max_below : (a b bound k : ℕ) → k * a < bound → k * b < bound → k * max a b < bound
-max_below a b bound k p q = by (nat_lt a b) refl
-  where
-    by : (t : Bool) → nat_lt a b ≡ t → k * max a b < bound
-    by true e =
-        let less : a < b = ltb-true a b e in
-        let is_b : max a b ≡ b = omega arith in
-        rw is_b q
-    by false e =
-        let more : b ≤ a = ltb-false a b e in
-        let is_a : max a b ≡ a = omega arith in
-        rw is_a p
+max_below a b bound k p q = grind arith
 
 -- the times are as short as they can be
 after_is : (error from middle to : ℕ) → error ≤ max_local_error → from ≤ middle → middle ≤ to → from < to

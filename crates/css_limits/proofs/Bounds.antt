@@ -64,7 +64,8 @@ latest-high own answer reading given late =
     let fast = F + answer.error in
     let down = down_is (fast * time) F (omega arith) in
     let is_time = longest_is own.error beyond (omega (arith, ranges.error)) in
-    let bound = high_loss (F - own.error) fast beyond time (fast * time / F) (omega (arith, given.error)) is_time down in
+    let bound = high_loss (F - own.error) fast beyond time (fast * time / F) (omega (arith, given.error)) is_time
+    down in
     let span = spans_are_the_standard own answer reading ranges given.error in
     let natural = times_natural fast (reading + 2 * own.precision + 1) answer.t1 (omega (arith, given.order)) in
     let rounded : ceil_div (pos fast *ℤ (pos (reading + 2 * own.precision + 1) -ℤ pos answer.t1)) (F - own.error)

@@ -1,6 +1,6 @@
 -- The histories of a response, and of a response and its follow-up, have limits.
-use Rattle.std.proofs.Common.{◌≡◌, ℕ, zero, suc, ◌+◌, ◌-◌, ◌*◌, ◌^◌, ◌<◌, ◌≤◌, min, arith, ap, sym, ◌∙◌, subst, refl, inl, inr, [], length}
-use Rattle.std.proofs.Common.{true}
+use Rattle.std.proofs.Common.{◌≡◌, ℕ, zero, suc, ◌+◌, ◌-◌, ◌*◌, ◌^◌, ◌<◌, ◌≤◌, min, []}
+use Rattle.std.proofs.Common.{arith, ap, sym, ◌∙◌, subst, refl, inl, inr, length, true}
 use Rattle.std.specs.Prelude.{ℤ, pos, negsuc, Some, ◌==◌, List, ⊤}
 use Rattle.std.proofs.lemmas.Int.{ints}
 use Rattle.std.proofs.lemmas.Option.{MatchOption-at_some}
@@ -23,8 +23,7 @@ use Rattle.css_model.proofs.Landings.{landed_answer-is}
 use Rattle.css_limits.proofs.Times.{up_is, cancel_lt}
 use Rattle.css_limits.proofs.Lists.{reads_of}
 use Rattle.css_limits.proofs.Open.{IsOpen}
-use Rattle.css_limits.proofs.Latest.{latest_later}
-use Rattle.css_limits.proofs.Earliest.{earliest_later}
+use Rattle.css_limits.proofs.Moments.{latest_later, earliest_later}
 use Rattle.css_limits.proofs.Bounds.{latest-high, earliest-low}
 use Rattle.css_limits.proofs.Limits.{open_of, Fits, latest_fits, earliest_fits}
 
@@ -79,7 +78,8 @@ was_asked trip originate is same =
     ))
 
 -- a world that explains a history has the exchange
-may_of : (own : Local) (who : ℕ) (trip : Trip) (told : Told) (reading wall : ℕ) (e : Explained own who told reading wall)
+may_of : (own : Local) (who : ℕ) (trip : Trip) (told : Told) (reading wall : ℕ)
+    → (e : Explained own who told reading wall)
     → e.truthful.ask ≡ 0 → e.truthful.sent_at ≤ e.moment_of 3 → 3 ≤ length told.older
     → Reads e.world who (e.moment_of 0) own.precision trip.asked 0
     → Reads e.world who (e.moment_of 3) own.precision trip.landed 0

@@ -1,10 +1,8 @@
-pub mod Steps
 pub mod Times
 pub mod Lists
 pub mod Open
-pub mod Latest
 pub mod After
-pub mod Earliest
+pub mod Moments
 pub mod Bounds
 pub mod Limits
 pub mod Histories

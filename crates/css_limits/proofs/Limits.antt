@@ -13,8 +13,8 @@ use Rattle.css_limits.specs.Limits.{MayShow, IsDeclared, IsUsual, HasRun}
 use Rattle.css_limits.specs.Limits.{EndsAreReached, NoneIsNarrower, UpperEndIsReached}
 use Rattle.css_limits.proofs.Lists.{is_world_of, reads_of}
 use Rattle.css_limits.proofs.Open.{IsOpen}
-use Rattle.css_limits.proofs.Latest.{latest_later, latest_runs, latest_transmit-near}
-use Rattle.css_limits.proofs.Earliest.{earliest_later, earliest_runs, earliest_transmit-near}
+use Rattle.css_limits.proofs.Moments.{latest_later, latest_runs, latest_transmit-near}
+use Rattle.css_limits.proofs.Moments.{earliest_later, earliest_runs, earliest_transmit-near}
 use Rattle.css_limits.proofs.After.{between_own-near}
 use Rattle.css_limits.proofs.Bounds.{latest-high, earliest-low}
 
@@ -81,7 +81,8 @@ open_of own answer reading wall told usual may =
     }
 
 -- A world of six moments has an exchange with the answer's times, and its last two read the companion's clock.
-pub record Fits (own : Local) (answer : Answer) (between reading : ℕ) (first : Shown) (later : List Shown) : Type 0 where
+pub record Fits (own : Local) (answer : Answer) (between reading : ℕ) (first : Shown) (later : List Shown) :
+    Type 0 where
   pub is_world : (who : ℕ) → IsWorldFor (declared own answer) (world_of first later) who own
   pub t1 : IsWithin own.precision answer.t1 (item first later 0).own
   pub t2 : IsWithin answer.precision answer.t2 (item first later 1).wall
