@@ -8,6 +8,7 @@ It ends where an allocation is refused, and has nothing left. A survey keeps no 
 so no output. A small library in front of the C library's allocator counts in a file that this script reads; it is built
 by `cc`, or by $CC. Each check prints a line. The exit status is 1 where one failed.
 """
+import json
 import mmap
 import os
 import shutil
@@ -19,6 +20,7 @@ import time
 
 from checks import Checks, css, ports
 from live_edge import dial_soon, wait_for
+from peer import PING, PONG, TEXT
 from television import Set
 
 COMPILER = os.environ.get("CC", "cc")
@@ -121,7 +123,10 @@ def settle(tv, session):
     tv.programme()
     wanted, told = tv.state()["contentId"], {}
     while told.get("contentId") != wanted:
-        told = session.text(LONG)
+        opcode, payload = session.hear(LONG)
+        if opcode == PING:  # A slow program asks meanwhile whether its peer is there.
+            session.say(payload, PONG)
+        told = json.loads(payload) if opcode == TEXT else {}
     time.sleep(0.1)
 
 
