@@ -314,6 +314,11 @@ pub const WATCHES: &[WatchRow] = &[
             no_answer!("3", "3000000000", "no response to 2 requests"),
             no_answer!("4", "4000000000", "no response to 3 requests")]),
     ("the TS session closes", CLOSES, "done", CLOSED),
+];
+
+/// Watches that begin another visit, that sleep, and that last for an evening.
+#[rattlefmt::skip]
+pub const VISITS: &[WatchRow] = &[
     ("another wcUrl", Case { world: MOVES, ..SECOND }, "no interval in 1 reports",
         &[VISIT, CII_OPEN, STATE_WC, WC_OPEN, r#"{"event":"end","number":1,"why":"moved wcUrl"}"#,
             r#"{"event":"visit","number":2,"reading":"10"}"#, CII_OPEN, STATE_OTHER_WC, WC_OPEN,

@@ -1,7 +1,7 @@
 //! The command `watch` over devices in memory.
 
 use crate::running::{Case, NO_MEMORY, check_run};
-use crate::watch_tables::{CLOSED, CLOSES, FAILING, WATCHES};
+use crate::watch_tables::{CLOSED, CLOSES, FAILING, VISITS, WATCHES, WatchRow};
 use css_num::Text;
 use std::alloc::Global;
 use std::process::Abort;
@@ -15,12 +15,21 @@ fn text_of(rt: &impl Abort, alloc: Global, lines: &[&str]) -> Text {
     text
 }
 
+fn check_watches(rt: &impl Abort, alloc: Global, rows: &[WatchRow]) {
+    for (name, case, ended, lines) in rows {
+        let text = text_of(rt, alloc, lines);
+        check_run(rt, alloc, name, case, ended, text.bytes());
+    }
+}
+
 #[test]
 fn each_watch_tells_what_happens(rt: HostRuntime) {
-    for (name, case, ended, lines) in WATCHES {
-        let text = text_of(&rt, rt.alloc(), lines);
-        check_run(&rt, rt.alloc(), name, case, ended, text.bytes());
-    }
+    check_watches(&rt, rt.alloc(), WATCHES);
+}
+
+#[test]
+fn each_watch_goes_on(rt: HostRuntime) {
+    check_watches(&rt, rt.alloc(), VISITS);
 }
 
 /// A watch that fails writes the first of these lines, so many.
