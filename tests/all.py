@@ -31,7 +31,7 @@ WORDS = {"tests/library.py": ["--over-gate"]}
 # The sessions of the pages have ports that somebody else may have.
 IN_OWN_NETWORK = {"docs/check.py"}
 NOT_RUN = {"bench/drives.py": "its program is proved over copies of the crates, which takes longer than all of this"}
-LIMIT = 900  # Only what hangs takes so many seconds.
+LIMIT = 1800  # Only what hangs takes so many seconds.
 RUNNING = set()
 
 
