@@ -31,7 +31,7 @@ Tells before now result entries =
 abbrev pub TellsDial : Option History → Option History → Kind → Address → Result ℕ OutFault → Type 0
 TellsDial before now kind to (Ok peer) = now ≡ with_entries (Dialled kind peer ∷ Dialling kind to ∷ []) before
 TellsDial before now kind to (Err (fault.Failed failure)) =
-    now ≡ with_entries (NotDialled kind ∷ Dialling kind to ∷ []) before
+    now ≡ with_entries (NotDialled kind failure ∷ Dialling kind to ∷ []) before
 TellsDial before now kind to (Err fault.Memory) = now ≡ before
 
 -- ---- the entries of a call, the newest first

@@ -1,9 +1,9 @@
 ghost use Rattle.std.specs.Prelude.{◌≡◌};
 ghost use Rattle.css_outside.specs.declared.fault.OutFault.{OutFault};
 ghost use Rattle.css_outside.specs.declared.fault.OutFault.TheVariants as fault;
-ghost use Rattle.css_outside.specs.declared.failure.Failure.TheVariants as failure;
+ghost use Rattle.css_model.specs.declared.Failure.TheVariants as failure;
 
-use crate::failure::Failure;
+use css_model::Failure;
 use css_num::Memory;
 use std::error::Error;
 use std::fmt;

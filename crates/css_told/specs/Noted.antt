@@ -12,7 +12,7 @@ abbrev pub entries_of : Note → History
 entries_of (note.Listens host port) = Listening host.now port ∷ []
 entries_of (note.Reads why clocked) = clock_entries why clocked
 entries_of (note.Dials kind to peer) = Dialled kind peer ∷ Dialling kind to.now ∷ []
-entries_of (note.DialsInVain kind to) = NotDialled kind ∷ Dialling kind to.now ∷ []
+entries_of (note.DialsInVain kind to failure) = NotDialled kind failure ∷ Dialling kind to.now ∷ []
 entries_of (note.Opens came) = opening_entries came
 entries_of (note.Sends peer bytes) = Sent peer bytes.now ∷ []
 entries_of (note.Takes bytes came) = datagram_entries bytes.now came

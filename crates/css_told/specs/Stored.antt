@@ -1,11 +1,13 @@
 -- How the logic stores a history.
-use Rattle.std.specs.Prelude.{◌≡◌, ℕ, List, [], refl, cond, ◌==◌}
+use Rattle.std.specs.Prelude.{◌≡◌, ℕ, ◌+◌, ◌-◌, List, [], refl, cond, ◌==◌}
 use Rattle.std.specs.Coded.{Coded, code_by, coded×, coded_ℕ, coded_list}
-use mathlib.Core.Path.{ap}
+use mathlib.Core.Path.{ap, ◌∙◌}
 use Rattle.css_model.specs.declared.Why.{Why}
 use Rattle.css_model.specs.declared.Why.TheVariants as why
 use Rattle.css_model.specs.declared.Kind.{Kind}
 use Rattle.css_model.specs.declared.Kind.TheVariants as kind
+use Rattle.css_model.specs.declared.Failure.{Failure}
+use Rattle.css_model.specs.declared.Failure.TheVariants as failure
 use Rattle.css_model.specs.History as history
 use Rattle.css_model.specs.History.{Entry, History}
 
@@ -39,6 +41,37 @@ kind_at-kind_number kind.Wc = refl
 kind_at-kind_number kind.Cii = refl
 kind_at-kind_number kind.Ts = refl
 
+abbrev failure_number : Failure → ℕ
+failure_number failure.InUse = 0
+failure_number failure.NotHere = 1
+failure_number failure.NoSuchHost = 2
+failure_number failure.Refused = 3
+failure_number failure.TimedOut = 4
+failure_number failure.NoPermission = 5
+failure_number failure.NoRoom = 6
+failure_number failure.NoWebSocket = 7
+failure_number failure.Other = 8
+failure_number (failure.HttpStatus status) = status + 9
+
+abbrev failure_at : ℕ → Failure
+failure_at n =
+    cond (n == 0) failure.InUse (cond (n == 1) failure.NotHere (cond (n == 2) failure.NoSuchHost
+    (cond (n == 3) failure.Refused (cond (n == 4) failure.TimedOut (cond (n == 5) failure.NoPermission
+    (cond (n == 6) failure.NoRoom (cond (n == 7) failure.NoWebSocket (cond (n == 8) failure.Other
+    (failure.HttpStatus (n - 9))))))))))
+
+pub failure_at-failure_number : (f : Failure) → failure_at (failure_number f) ≡ f
+failure_at-failure_number failure.InUse = refl
+failure_at-failure_number failure.NotHere = refl
+failure_at-failure_number failure.NoSuchHost = refl
+failure_at-failure_number failure.Refused = refl
+failure_at-failure_number failure.TimedOut = refl
+failure_at-failure_number failure.NoPermission = refl
+failure_at-failure_number failure.NoRoom = refl
+failure_at-failure_number failure.NoWebSocket = refl
+failure_at-failure_number failure.Other = refl
+failure_at-failure_number (failure.HttpStatus status) = refl
+
 -- which entry, a kind or a reason, a number, and two lists
 abbrev Parts : Type 0
 Parts = ℕ × (ℕ × (ℕ × (List ℕ × List ℕ)))
@@ -49,7 +82,7 @@ to_parts history.Slept = (1, (0, (0, ([], []))))
 to_parts (history.Clock why reading) = (2, (why_number why, (reading, ([], []))))
 to_parts (history.Dialling kind to) = (3, (kind_number kind, (to.port, (to.host, to.path))))
 to_parts (history.Dialled kind peer) = (4, (kind_number kind, (peer, ([], []))))
-to_parts (history.NotDialled kind) = (5, (kind_number kind, (0, ([], []))))
+to_parts (history.NotDialled kind failure) = (5, (kind_number kind, (failure_number failure, ([], []))))
 to_parts (history.Accepted peer kind) = (6, (kind_number kind, (peer, ([], []))))
 to_parts history.NoneCame = (7, (0, (0, ([], []))))
 to_parts (history.Sent peer bytes) = (8, (0, (peer, (bytes, []))))
@@ -69,7 +102,8 @@ early p =
     (cond (p.0 == 2) (history.Clock (why_at p.1.0) p.1.1.0)
     (cond (p.0 == 3)
     (history.Dialling (kind_at p.1.0) (record { host = p.1.1.1.0; port = p.1.1.0; path = p.1.1.1.1 }))
-    (cond (p.0 == 4) (history.Dialled (kind_at p.1.0) p.1.1.0) (cond (p.0 == 5) (history.NotDialled (kind_at p.1.0))
+    (cond (p.0 == 4) (history.Dialled (kind_at p.1.0) p.1.1.0)
+    (cond (p.0 == 5) (history.NotDialled (kind_at p.1.0) (failure_at p.1.1.0))
     (cond (p.0 == 6) (history.Accepted p.1.1.0 (kind_at p.1.0)) (cond (p.0 == 7) history.NoneCame
     (history.Sent p.1.1.0 p.1.1.1.0))))))))
 
@@ -86,7 +120,9 @@ from_parts-to_parts history.Slept = refl
 from_parts-to_parts (history.Clock why reading) = ap (λ w. history.Clock w reading) (why_at-why_number why)
 from_parts-to_parts (history.Dialling kind to) = ap (λ k. history.Dialling k to) (kind_at-kind_number kind)
 from_parts-to_parts (history.Dialled kind peer) = ap (λ k. history.Dialled k peer) (kind_at-kind_number kind)
-from_parts-to_parts (history.NotDialled kind) = ap history.NotDialled (kind_at-kind_number kind)
+from_parts-to_parts (history.NotDialled kind failure) =
+    ap (λ k. history.NotDialled k (failure_at (failure_number failure))) (kind_at-kind_number kind)
+    ∙ ap (history.NotDialled kind) (failure_at-failure_number failure)
 from_parts-to_parts (history.Accepted peer kind) = ap (history.Accepted peer) (kind_at-kind_number kind)
 from_parts-to_parts history.NoneCame = refl
 from_parts-to_parts (history.Sent peer bytes) = refl

@@ -1,4 +1,4 @@
-use css_model::{Kind, Why};
+use css_model::{Failure, Kind, Why};
 use css_num::Text;
 use css_outside::{Address, Clocked, Heard, Wrote};
 
@@ -8,7 +8,7 @@ pub enum Note<'a> {
     Listens(&'a Text, u16),
     Reads(Why, Clocked),
     Dials(Kind, &'a Address, u32),
-    DialsInVain(Kind, &'a Address),
+    DialsInVain(Kind, &'a Address, Failure),
     Opens(Option<(u32, Kind)>),
     Sends(u32, &'a [u8; 32]),
     Takes(&'a [u8; 64], Option<(u32, usize)>),

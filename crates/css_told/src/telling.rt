@@ -77,7 +77,9 @@ impl<O: Outside> Outside for TellingOutside<O> {
         let dialled = self.inner.dial(kind, to);
         match dialled {
             Ok(peer) => self.diary.note(&Note::Dials(kind, to, peer)),
-            Err(OutFault::Failed(_)) => self.diary.note(&Note::DialsInVain(kind, to)),
+            Err(OutFault::Failed(failure)) => self
+                .diary
+                .note(&Note::DialsInVain(kind, to, failure)),
             Err(OutFault::Memory) => {}
         }
         dialled

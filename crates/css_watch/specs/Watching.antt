@@ -7,7 +7,7 @@ use Rattle.css_client.specs.Landings.{with_judged}
 use Rattle.css_client.specs.declared.landing.Landing.{Landing}
 use Rattle.css_outside.specs.Bytes.{AppendsPrefix}
 use Rattle.css_outside.specs.Faults.{CountsOutFault}
-use Rattle.css_outside.specs.declared.failure.Failure.TheVariants as failure
+use Rattle.css_model.specs.declared.Failure.TheVariants as failure
 use Rattle.css_outside.specs.declared.fault.OutFault.{OutFault}
 use Rattle.css_outside.specs.declared.fault.OutFault.TheVariants as fault
 use Rattle.css_agree.specs.Keeping.{Kept, StandsFor}
