@@ -1,5 +1,5 @@
 -- How the logic stores a history.
-use Rattle.std.specs.Prelude.{◌≡◌, ℕ, ◌+◌, ◌-◌, List, [], refl, cond, ◌==◌}
+use Rattle.std.specs.Prelude.{◌≡◌, ℕ, List, [], ◌∷◌, refl, cond, ◌==◌}
 use Rattle.std.specs.Coded.{Coded, code_by, coded×, coded_ℕ, coded_list}
 use mathlib.Core.Path.{ap, ◌∙◌}
 use Rattle.css_model.specs.declared.Why.{Why}
@@ -51,16 +51,21 @@ failure_number failure.NoPermission = 5
 failure_number failure.NoRoom = 6
 failure_number failure.NoWebSocket = 7
 failure_number failure.Other = 8
-failure_number (failure.HttpStatus status) = status + 9
+failure_number (failure.HttpStatus status) = 9
 
-abbrev failure_at : ℕ → Failure
-failure_at n =
+-- the status that an HTTP server answered with
+abbrev status_of : Failure → List ℕ
+status_of (failure.HttpStatus status) = status ∷ []
+status_of _ = []
+
+abbrev failure_at : ℕ → List ℕ → Failure
+failure_at n (status ∷ _) = failure.HttpStatus status
+failure_at n [] =
     cond (n == 0) failure.InUse (cond (n == 1) failure.NotHere (cond (n == 2) failure.NoSuchHost
     (cond (n == 3) failure.Refused (cond (n == 4) failure.TimedOut (cond (n == 5) failure.NoPermission
-    (cond (n == 6) failure.NoRoom (cond (n == 7) failure.NoWebSocket (cond (n == 8) failure.Other
-    (failure.HttpStatus (n - 9))))))))))
+    (cond (n == 6) failure.NoRoom (cond (n == 7) failure.NoWebSocket failure.Other)))))))
 
-pub failure_at-failure_number : (f : Failure) → failure_at (failure_number f) ≡ f
+pub failure_at-failure_number : (f : Failure) → failure_at (failure_number f) (status_of f) ≡ f
 failure_at-failure_number failure.InUse = refl
 failure_at-failure_number failure.NotHere = refl
 failure_at-failure_number failure.NoSuchHost = refl
@@ -82,7 +87,8 @@ to_parts history.Slept = (1, (0, (0, ([], []))))
 to_parts (history.Clock why reading) = (2, (why_number why, (reading, ([], []))))
 to_parts (history.Dialling kind to) = (3, (kind_number kind, (to.port, (to.host, to.path))))
 to_parts (history.Dialled kind peer) = (4, (kind_number kind, (peer, ([], []))))
-to_parts (history.NotDialled kind failure) = (5, (kind_number kind, (failure_number failure, ([], []))))
+to_parts (history.NotDialled kind failure) =
+    (5, (kind_number kind, (failure_number failure, (status_of failure, []))))
 to_parts (history.Accepted peer kind) = (6, (kind_number kind, (peer, ([], []))))
 to_parts history.NoneCame = (7, (0, (0, ([], []))))
 to_parts (history.Sent peer bytes) = (8, (0, (peer, (bytes, []))))
@@ -103,7 +109,7 @@ early p =
     (cond (p.0 == 3)
     (history.Dialling (kind_at p.1.0) (record { host = p.1.1.1.0; port = p.1.1.0; path = p.1.1.1.1 }))
     (cond (p.0 == 4) (history.Dialled (kind_at p.1.0) p.1.1.0)
-    (cond (p.0 == 5) (history.NotDialled (kind_at p.1.0) (failure_at p.1.1.0))
+    (cond (p.0 == 5) (history.NotDialled (kind_at p.1.0) (failure_at p.1.1.0 p.1.1.1.0))
     (cond (p.0 == 6) (history.Accepted p.1.1.0 (kind_at p.1.0)) (cond (p.0 == 7) history.NoneCame
     (history.Sent p.1.1.0 p.1.1.1.0))))))))
 
@@ -121,7 +127,7 @@ from_parts-to_parts (history.Clock why reading) = ap (λ w. history.Clock w read
 from_parts-to_parts (history.Dialling kind to) = ap (λ k. history.Dialling k to) (kind_at-kind_number kind)
 from_parts-to_parts (history.Dialled kind peer) = ap (λ k. history.Dialled k peer) (kind_at-kind_number kind)
 from_parts-to_parts (history.NotDialled kind failure) =
-    ap (λ k. history.NotDialled k (failure_at (failure_number failure))) (kind_at-kind_number kind)
+    ap (λ k. history.NotDialled k (failure_at (failure_number failure) (status_of failure))) (kind_at-kind_number kind)
     ∙ ap (history.NotDialled kind) (failure_at-failure_number failure)
 from_parts-to_parts (history.Accepted peer kind) = ap (history.Accepted peer) (kind_at-kind_number kind)
 from_parts-to_parts history.NoneCame = refl
