@@ -70,6 +70,7 @@ fn system_said(alloc: Global, failure: Failure) -> Option<String> {
         Failure::HttpStatus(status) => format!(in alloc;
             "the answer was HTTP status {status} and no session"
         ),
+        Failure::NoWebSocket => format!(in alloc; "what answered opened no WebSocket"),
         Failure::Other => return None,
     }
     .ok()

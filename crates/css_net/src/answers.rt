@@ -45,7 +45,7 @@ impl DialFault {
     pub(crate) fn plain(self) -> OutFault {
         match self {
             DialFault::Plain(fault) => fault,
-            DialFault::Answered(_) => OutFault::Failed(Failure::Other),
+            DialFault::Answered(_) => OutFault::Failed(Failure::NoWebSocket),
         }
     }
 
@@ -102,12 +102,12 @@ pub(crate) fn check_answer(head: &[u8], key: &[u8; 24]) -> Result<(), DialFault>
     let mut response = Response::new(&mut fields);
     match response.parse(head) {
         Ok(Status::Complete(_)) => {}
-        _ => return Err(DialFault::failed(Failure::Other)),
+        _ => return Err(DialFault::failed(Failure::NoWebSocket)),
     }
     match response.code {
         Some(101) => {}
         Some(status) => return Err(DialFault::failed(Failure::HttpStatus(status))),
-        None => return Err(DialFault::failed(Failure::Other)),
+        None => return Err(DialFault::failed(Failure::NoWebSocket)),
     }
     if response.version != Some(1) {
         return Err(DialFault::Answered(Wrong::Version));

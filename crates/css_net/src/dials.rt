@@ -150,12 +150,20 @@ impl Call {
                     check_answer(self.head.bytes(), &self.key)?;
                     return Ok(Turn::Opened);
                 }
-                Progress::TooLong | Progress::Ended => return Err(DialFault::failed(
-                    Failure::Other,
-                )),
+                Progress::TooLong => return Err(DialFault::failed(Failure::NoWebSocket)),
+                Progress::Ended => return Err(DialFault::failed(self.ended())),
             }
         }
         Ok(Turn::Waits)
+    }
+
+    /// What it failed by where the stream has ended. Part of a head is an answer too.
+    fn ended(&self) -> Failure {
+        if self.head.has_begun() {
+            Failure::NoWebSocket
+        } else {
+            Failure::Other
+        }
     }
 
     /// One turn, which may be its last. One that takes too long ends.

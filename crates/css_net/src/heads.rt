@@ -84,6 +84,11 @@ impl Head {
         }
     }
 
+    /// Whether some of it has come.
+    pub(crate) fn has_begun(&self) -> bool {
+        !self.bytes.is_empty()
+    }
+
     /// The bytes of a head that is whole.
     pub(crate) fn bytes(&self) -> &[u8] {
         self.bytes.get(..self.length).unwrap_or(&[])

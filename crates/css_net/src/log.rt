@@ -77,6 +77,7 @@ fn said(fault: OutFault) -> &'static str {
         OutFault::Failed(Failure::NoPermission) => "no permission",
         OutFault::Failed(Failure::NoRoom) => "no room",
         OutFault::Failed(Failure::HttpStatus(_)) => "HTTP status",
+        OutFault::Failed(Failure::NoWebSocket) => "no WebSocket",
         OutFault::Failed(Failure::Other) => "failed",
     }
 }

@@ -52,7 +52,7 @@ impl<R: NetRuntime> NetOutside<R> {
     }
 
     /// What was wrong with the answer to the last dial that failed, in words, where it was a status 101 that makes no
-    /// session. As a failure that is `Other`.
+    /// session. As a failure that is `NoWebSocket`.
     pub fn wrong_answer(&self) -> Option<&'static str> {
         let wrong = self.sockets.failures().wrong()?;
         Some(wrong.words())
