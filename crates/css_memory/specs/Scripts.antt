@@ -9,6 +9,8 @@ use Rattle.css_model.specs.declared.Why.{Why}
 use Rattle.css_model.specs.declared.TheConstants.{LIMIT}
 use Rattle.css_model.specs.declared.Kind.{Kind}
 use Rattle.css_model.specs.declared.Kind.TheVariants as kind
+use Rattle.css_model.specs.declared.Failure.{Failure}
+use Rattle.css_model.specs.declared.Failure.TheVariants as failure
 use Rattle.css_model.specs.History.{History, Listening, Dialling, Dialled, NotDialled, Sent, HungUp, Took, TookNone}
 use Rattle.css_outside.specs.declared.fault.OutFault.{OutFault}
 use Rattle.css_outside.specs.Faults.{HasFailed}
@@ -33,7 +35,7 @@ abbrev pub entries_of : Note → History
 entries_of (note.Listened host port) = Listening host port ∷ []
 entries_of (note.Read why clocked) = clock_entries why clocked
 entries_of (note.Dialled kind to peer) = Dialled kind peer ∷ Dialling kind to ∷ []
-entries_of (note.NotDialled kind to) = NotDialled kind ∷ Dialling kind to ∷ []
+entries_of (note.NotDialled kind to failure) = NotDialled kind failure ∷ Dialling kind to ∷ []
 entries_of (note.Came opening) = opening_entries opening
 entries_of (note.Sent peer bytes) = Sent peer bytes ∷ []
 entries_of (note.Took peer bytes) = Took peer bytes ∷ []
@@ -47,8 +49,9 @@ abbrev pub history_of : List Note → History
 history_of notes = fold (λ history made. entries_of made ++ history) [] notes
 
 -- ---- the state of an outside in memory
--- What it has still to give; which calls fail, and how many were made; how many texts it has sent; the peers of its
--- sessions, in order; the last reading and the greatest peer; and what its calls did, the newest first.
+-- What it has still to give; which calls fail, what the failed dials still to come tell, and how many calls were made;
+-- how many texts it has sent; the peers of its sessions, in order; the last reading and the greatest peer; and what its
+-- calls did, the newest first.
 pub record Scripted : Type 0 where
   pub readings : List Clocked
   pub datagrams : List (Option Datagram)
@@ -56,6 +59,7 @@ pub record Scripted : Type 0 where
   pub texts : List SessionHeard
   pub gone : List ℕ
   pub fails : List ℕ
+  pub failures : List Failure
   pub calls : ℕ
   pub sends : ℕ
   pub sessions : List ℕ
@@ -158,6 +162,7 @@ begun script = record {
   texts = script.texts.items;
   gone = script.gone.items;
   fails = script.fails.items;
+  failures = [];
   calls = 0;
   sends = 0;
   sessions = [];
@@ -256,11 +261,20 @@ Steps before now result stepped = MatchResult result (λ _. now ≡ stepped) (λ
 abbrev pub StepsCounted : {T E : Type 0} → Scripted → Scripted → Result T E → Scripted → Type 0
 StepsCounted before now result stepped = Steps (counted before) now result (counted stepped)
 
+-- what the next dial that fails tells
+abbrev pub next_failure : List Failure → Failure
+next_failure [] = failure.Other
+next_failure (said ∷ later) = said
+
 -- a dial that fails is told
 abbrev pub dial_failed : Kind → Address → Scripted → Scripted
-dial_failed kind to state = telling (NotDialled kind ∷ Dialling kind to ∷ []) state
+dial_failed kind to state =
+    telling (NotDialled kind (next_failure state.failures) ∷ Dialling kind to ∷ []) (record state {
+      failures = drop 1 state.failures;
+    })
 
 abbrev pub StepsDial : Kind → Address → Scripted → Scripted → Result ℕ OutFault → Type 0
 StepsDial kind to before now (Ok peer) = now ≡ counted (dialled kind to before)
-StepsDial kind to before now (Err (fault.Failed failure)) = now ≡ counted (dial_failed kind to before)
+StepsDial kind to before now (Err (fault.Failed said)) =
+    (said ≡ next_failure before.failures) × (now ≡ counted (dial_failed kind to before))
 StepsDial kind to before now (Err fault.Memory) = now ≡ counted before

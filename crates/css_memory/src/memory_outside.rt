@@ -53,6 +53,15 @@ impl MemoryOutside {
             faults: 0,
         })
     }
+
+    /// With what the system says of each dial that fails, in order. Past the end of the list, and without one, it
+    /// is `Failure::Other`.
+    pub fn failing_by(mut self, failures: Vec<Failure>) -> MemoryOutside
+        ensures { result ≡ record self { devices = record self.devices { failures = failures.items } } }
+    {
+        self.devices.fail_by(failures);
+        self
+    }
 }
 
 impl Outside for MemoryOutside {
@@ -99,9 +108,9 @@ impl Outside for MemoryOutside {
         ensures steps { StepsDial kind to.now self.old.devices self.new.devices result }
     {
         if self.devices.next_fails() {
-            self.devices.fail_dial(kind, to)?;
+            let failure = self.devices.fail_dial(kind, to)?;
             self.dial_faults = self.dial_faults.saturating_add(1);
-            return Err(OutFault::Failed(Failure::Other));
+            return Err(OutFault::Failed(failure));
         }
         Ok(self.devices.dial(kind, to)?)
     }

@@ -1,6 +1,6 @@
 ghost use Rattle.std.specs.Prelude.{◌≡◌, ◌<◌, ◌≤◌, ◌↔◌, Contains, IfSome, position, ◌==◌, min, ◌+◌, ◌++◌, ◌∷◌};
 ghost use Rattle.std.specs.Prelude.{[], Some, None, Err, drop, take, length, IfOk, OnOk, OnErr, IsTrue};
-ghost use Rattle.css_model.specs.History.{Entry, Listening, Sent, HungUp, Dialling, Dialled, NotDialled};
+ghost use Rattle.css_model.specs.History.{Entry, Listening, Sent, HungUp, Dialling, Dialled};
 ghost use Rattle.css_model.specs.declared.Kind.TheVariants as kinds;
 ghost use Rattle.css_memory.specs.Failing.{next_count};
 ghost use Rattle.css_model.specs.declared.TheConstants.{LIMIT};
@@ -13,7 +13,7 @@ use crate::places::past;
 use crate::script::{OutsideScript, SessionHeard};
 use css_model::{Kind, Why};
 use css_num::{Memory, Text};
-use css_outside::{Address, Clocked, Heard, OutFault, Wrote};
+use css_outside::{Address, Clocked, Failure, Heard, OutFault, Wrote};
 use std::alloc::Global;
 use std::marker::Model;
 
@@ -22,7 +22,7 @@ pub enum Note {
     Listened(Text, u16),
     Read(Why, Clocked),
     Dialled(Kind, Address, u32),
-    NotDialled(Kind, Address),
+    NotDialled(Kind, Address, Failure),
     Came(Option<(u32, Kind)>),
     Sent(u32, Text),
     Took(u32, Text),
@@ -39,7 +39,7 @@ impl Drop for Note {
             Note::Listened(_, _)
             | Note::Read(_, _)
             | Note::Dialled(_, _, _)
-            | Note::NotDialled(_, _)
+            | Note::NotDialled(_, _, _)
             | Note::Came(_)
             | Note::Sent(_, _)
             | Note::Took(_, _)
@@ -55,6 +55,7 @@ impl Drop for Note {
 pub struct Devices {
     alloc: Global,
     script: OutsideScript,
+    failures: Vec<Failure>,
     notes: Vec<Note>,
     sessions: Vec<u32>,
     read: usize,
@@ -72,6 +73,7 @@ impl Drop for Devices {
         let Devices {
             alloc: _,
             script: _,
+            failures: _,
             notes: _,
             sessions: _,
             read: _,
@@ -99,6 +101,7 @@ impl Model for Devices {
       texts = d.script.texts.items;
       gone = d.script.gone.items;
       fails = d.script.fails.items;
+      failures = d.failures.items;
       calls = d.calls;
       sends = d.sends;
       sessions = d.sessions.items;
@@ -256,6 +259,16 @@ fn next_opening(openings: &[Option<Kind>], at: usize) -> Option<Kind>
     }
 }
 
+/// What the next dial that fails tells.
+fn next_failure(failures: &[Failure]) -> Failure
+    ensures { result ≡ scripts.next_failure failures.now }
+{
+    match failures.first() {
+        None => Failure::Other,
+        Some(failure) => *failure,
+    }
+}
+
 impl Devices {
     /// The devices that give what the script says.
     pub fn new(alloc: Global, script: OutsideScript) -> Devices
@@ -266,6 +279,7 @@ impl Devices {
         Devices {
             alloc,
             script,
+            failures: Vec::new(alloc),
             notes: Vec::new(alloc),
             sessions: Vec::new(alloc),
             read: 0,
@@ -322,13 +336,26 @@ impl Devices {
         Ok(peer)
     }
 
-    /// Notes a dial that failed.
-    pub fn fail_dial(&mut self, kind: Kind, to: &Address) -> Result<(), Memory>
-        ensures ok { OnOk result (self.new ≡ telling (NotDialled kind ∷ Dialling kind to.now ∷ []) self.old) }
+    /// Takes what each dial that fails from now on tells, in order.
+    pub fn fail_by(&mut self, failures: Vec<Failure>)
+        ensures { self.new ≡ record self.old { failures = failures.items } }
+    {
+        self.failures = failures;
+    }
+
+    /// Notes a dial that failed, and tells what the system said of it.
+    pub fn fail_dial(&mut self, kind: Kind, to: &Address) -> Result<Failure, Memory>
+        ensures value { IfOk result (λ failure. failure ≡ scripts.next_failure self.old.failures) }
+        ensures ok { OnOk result (self.new ≡ scripts.dial_failed kind to.now self.old) }
         ensures err { OnErr result (self.new ≡ self.old) }
     {
         let to = copied(to)?;
-        add_note(&mut self.notes, Note::NotDialled(kind, to))
+        let failure = next_failure(&self.failures);
+        add_note(&mut self.notes, Note::NotDialled(kind, to, failure))?;
+        if !self.failures.is_empty() {
+            self.failures.remove(0);
+        }
+        Ok(failure)
     }
 
     pub fn accept(&mut self) -> Result<Option<(u32, Kind)>, Memory>
