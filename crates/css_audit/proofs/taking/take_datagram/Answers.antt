@@ -10,4 +10,4 @@ pub returns-clause-tells : goal.returns-clause-tells
 returns-clause-tells c = λ older keeps.
     subst (λ (bytes : List ℕ). companions.StandsFor c.land.new.self
     (Clock why.Land c.args.reading ∷ Took wall_peer bytes ∷ history_in older)) c.bytes.ensures
-    (c.in_ok-land.ensures.stands (history_in older) wall_peer keeps.told)
+    (c.in_ok-land.ensures.stands _ (history_in older) wall_peer keeps.told)

@@ -10,4 +10,4 @@ pub returns-clause-tells : goal.returns-clause-tells
 returns-clause-tells c = λ older keeps.
     subst (λ (bytes : List ℕ). companions.StandsFor c.ask.new.self
     (Sent wall_peer bytes ∷ Clock why.Ask c.args.reading ∷ history_in older)) c.ask.ensures.request
-    (c.ask.ensures.stands (history_in older) wall_peer keeps.told)
+    (c.ask.ensures.stands _ (history_in older) wall_peer keeps.told)

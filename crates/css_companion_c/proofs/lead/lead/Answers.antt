@@ -9,14 +9,14 @@ returns-in-None-clause-code c = λ _ history known.
     told_code c.in-Some.span c.in-Ok.timing c.args.tick c.lead_at.result false
     (subst (λ (t : ℤ). c.lead_at.result ≡ lead_at c.in-Ok.timing t c.in-Some.span) (to_z-of_z c.ranges.tick)
     c.lead_at.ensures.value)
-    c.in-None.ensures.fits _ _ (c.in-Some.ensures.span history known) (c.in-Ok.ensures.meaning history known)
+    c.in-None.ensures.fits _ _ (c.in-Some.ensures.span _ history known) (c.in-Ok.ensures.meaning history known)
 
 pub returns-in-Some-ends_of-clause-code : goal.returns-in-Some-ends_of-clause-code
 returns-in-Some-ends_of-clause-code c = λ _ history known.
     told_code c.in-Some.span c.in-Ok.timing c.args.tick c.lead_at.result true
     (subst (λ (t : ℤ). c.lead_at.result ≡ lead_at c.in-Ok.timing t c.in-Some.span) (to_z-of_z c.ranges.tick)
     c.lead_at.ensures.value)
-    c.in-Some-ends_of.ensures.fits _ _ (c.in-Some.ensures.span history known)
+    c.in-Some-ends_of.ensures.fits _ _ (c.in-Some.ensures.span _ history known)
     (c.in-Ok.ensures.meaning history known)
 
 pub returns-in-Some-ends_of-clause-lead : goal.returns-in-Some-ends_of-clause-lead
@@ -24,7 +24,7 @@ returns-in-Some-ends_of-clause-lead c = λ _ history known.
     told_lead c.in-Some.span c.in-Ok.timing c.args.tick c.lead_at.result _
     (subst (λ (t : ℤ). c.lead_at.result ≡ lead_at c.in-Ok.timing t c.in-Some.span) (to_z-of_z c.ranges.tick)
     c.lead_at.ensures.value)
-    c.in-Some-ends_of.ensures.value _ _ (c.in-Some.ensures.span history known)
+    c.in-Some-ends_of.ensures.value _ _ (c.in-Some.ensures.span _ history known)
     (c.in-Ok.ensures.meaning history known)
 
 pub returns-in-Some-ends_of-clause-truth : goal.returns-in-Some-ends_of-clause-truth

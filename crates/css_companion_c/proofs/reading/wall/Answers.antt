@@ -5,7 +5,7 @@ use Rattle.css_companion_c.proofs.reading.wall.Goals as goal
 
 pub returns-in-Some-ends_of-clause-span : goal.returns-in-Some-ends_of-clause-span
 returns-in-Some-ends_of-clause-span c = λ _ history known.
-    sym (c.in-Some.ensures.span history known) ∙ ap Some c.in-Some-ends_of.ensures.value
+    sym (c.in-Some.ensures.span _ history known) ∙ ap Some c.in-Some-ends_of.ensures.value
 
 pub returns-in-Some-ends_of-clause-truth : goal.returns-in-Some-ends_of-clause-truth
 returns-in-Some-ends_of-clause-truth c = λ _.

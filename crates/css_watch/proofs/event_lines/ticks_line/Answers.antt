@@ -11,5 +11,5 @@ returns c history s =
     c.args.reading x)) in
     telling.ticks_as c.args.number c.args.reading c.args.ticks c.in-Some.wall c.in-Some-answer.answer
     c.in-Ok.timing _ _ _
-    c.known_line.result (c.in-Some.ensures.span history s) (c.in-Some-answer.ensures history s)
+    c.known_line.result (c.in-Some.ensures.span _ history s) (c.in-Some-answer.ensures _ history s)
     (c.in-Ok.ensures.meaning history s) (subst P c.known_by.ensures c.known_line.ensures.text)

@@ -38,7 +38,7 @@ returns-clause-carries c = λ header lines now own is ready may.
           (subst (λ (bytes : List ℕ). companions.StandsFor c.ask-request.new.self
           (Sent peer bytes ∷ Clock why.Ask c.args.reading ∷ history_of who header lines))
           c.ask-request.ensures.request
-          (c.ask-request.ensures.stands (history_of who header lines) peer (ready.ends.lanes who lane found).companion))
+          (c.ask-request.ensures.stands _ (history_of who header lines) peer (ready.ends.lanes who lane found).companion))
           (c.in_ok-push.ensures.items
           ∙ ap (λ (bytes : List ℕ). old.requests ++ bytes ∷ []) c.ask-request.ensures.request)
           c.in_ok-push-2.ensures.items);

@@ -28,7 +28,7 @@ returns-clause-carries c = λ header lines now own is ready may.
     let done = landed old lines now.number now.line.t now.line.w c.args.who now.line.l c.args.datagram c.args.reading
     c.in-Some.datagram.now lane c.land.new.self ready.ends c.requires.first c.requires.within c.lane-lane.ensures.value
     found whose
-    (c.in_ok-land.ensures.stands (history_of c.args.who header lines) peer
+    (c.in_ok-land.ensures.stands _ (history_of c.args.who header lines) peer
     (ready.ends.lanes c.args.who lane c.lane-lane.ensures.value).companion) in
     let on = are_on old lines now c.args.who (Land c.args.datagram c.args.reading) own is may ready.are in
     let ok : Result (Unit {0}) WorldFault = Ok tt in

@@ -25,5 +25,5 @@ returns-clause-carries c = λ header lines now own is ready may.
       ends = at_line _ lines now who Sleep own is
           (sleeps old lines now.number now.line.t now.line.w who now.line.l lane c.slept.new.self ready.ends
           c.requires.first c.requires.within found
-          (c.slept.ensures.stands (history_of who header lines) (ready.ends.lanes who lane found).companion));
+          (c.slept.ensures.stands _ (history_of who header lines) (ready.ends.lanes who lane found).companion));
     }

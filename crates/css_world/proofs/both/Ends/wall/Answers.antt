@@ -16,4 +16,4 @@ returns-clause-printed c = λ header lines ready.
     c.in_ok-print_wall.ensures.ok
     ∙ ap (λ span. c.args.out.now.items ++ wall_text c.args.number span c.args.w)
     (span_told (kept header c.args.self.now) lines c.args.who c.in-Some.lane.now c.args.reading c.wall.result ready
-    c.in-Some.ensures.some c.wall.ensures.span)
+    c.in-Some.ensures.some (c.wall.ensures.span _))
