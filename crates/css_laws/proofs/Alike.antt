@@ -22,10 +22,10 @@ use Rattle.css_schedule.specs.Lines.{line_of, line_in}
 use Rattle.css_migrate.specs.Migrated.{fed, line_turned, header_turned, header_becomes, line_becomes, text_becomes}
 use Rattle.css_migrate.specs.Migrated.{migrated}
 use Rattle.css_migrate.specs.declared.migrate.NoLine.{NoLine}
-use Rattle.css_world.specs.Happened.{Numbered}
-use Rattle.css_world.specs.Verdicts.{line_meant}
-use Rattle.css_world.specs.declared.fault.WorldFault.{WorldFault}
-use Rattle.css_world.specs.declared.fault.WorldFault.TheVariants as world
+use Rattle.css_meaning.specs.Happened.{Numbered}
+use Rattle.css_meaning.specs.Verdicts.{line_meant}
+use Rattle.css_meaning.specs.declared.fault.WorldFault.{WorldFault}
+use Rattle.css_meaning.specs.declared.fault.WorldFault.TheVariants as world
 use Rattle.css_replay.specs.declared.reader.Cause.{Cause}
 use Rattle.css_replay.specs.Replayed.{Extent, Running, caused, ended_at, longest_input, longest_line}
 use Rattle.css_replay.specs.Replayed.{reached, replayed, started}

@@ -10,16 +10,16 @@ use Rattle.css_moments.specs.Drifts.{time_verdict, drift_verdict, verdict}
 use Rattle.css_moments.specs.declared.fault.DriftFault.{DriftFault}
 use Rattle.css_moments.specs.declared.fault.DriftFault.TheVariants as drifts
 use Rattle.css_schedule.specs.declared.header.Header.{Header}
-use Rattle.css_world.specs.Happened.{Numbered, requests, askers, tickets, taken_for, datagrams, made_for, is_given}
-use Rattle.css_world.specs.Happened.{ends_of}
+use Rattle.css_meaning.specs.Happened.{Numbered, requests, askers, tickets, taken_for, datagrams, made_for, is_given}
+use Rattle.css_meaning.specs.Happened.{ends_of}
 use Rattle.css_model.specs.Numbers.{precision_ns}
-use Rattle.css_world.specs.Verdicts.{local_of, tv_reading, own_reading, own_shown_tested, shown_tested}
-use Rattle.css_world.specs.Verdicts.{reading_tested, tested}
-use Rattle.css_world.specs.Clocks.{Seen, shown_at, told_with, told_by, broken_by, clock_verdict, last_reading}
-use Rattle.css_world.specs.Clocks.{has_woken, near_verdict, order_verdict, reading_verdict}
-use Rattle.css_world.specs.Verdicts.{tv_seen, own_seen, seen_of_tv, seen_of}
-use Rattle.css_world.specs.declared.watch.Reading.{Reading}
-use Rattle.css_world.specs.declared.fault.WorldFault.{WorldFault}
+use Rattle.css_meaning.specs.Verdicts.{local_of, tv_reading, own_reading, own_shown_tested, shown_tested}
+use Rattle.css_meaning.specs.Verdicts.{reading_tested, tested}
+use Rattle.css_meaning.specs.Clocks.{Seen, shown_at, told_with, told_by, broken_by, clock_verdict, last_reading}
+use Rattle.css_meaning.specs.Clocks.{has_woken, near_verdict, order_verdict, reading_verdict}
+use Rattle.css_meaning.specs.Verdicts.{tv_seen, own_seen, seen_of_tv, seen_of}
+use Rattle.css_meaning.specs.declared.reading.Reading.{Reading}
+use Rattle.css_meaning.specs.declared.fault.WorldFault.{WorldFault}
 use Rattle.css_laws.specs.Numbers.{raised_line, raised_lines, raised_fault}
 
 -- ---- what is told

@@ -21,9 +21,9 @@ use Rattle.css_schedule.specs.declared.line.Verb.{Verb}
 use Rattle.css_schedule.specs.declared.line.Verb.TheVariants.{Wall, Print}
 use Rattle.css_schedule.specs.Headers.{header_of, companion_of, with_companion}
 use Rattle.css_schedule.specs.Lines.{line_in}
-use Rattle.css_world.specs.Happened.{Numbered}
-use Rattle.css_world.specs.Verdicts.{printed_for}
-use Rattle.css_world.proofs.Worlds.{carried_ok}
+use Rattle.css_meaning.specs.Happened.{Numbered}
+use Rattle.css_meaning.specs.Verdicts.{printed_for}
+use Rattle.css_meaning.proofs.Worlds.{carried_ok}
 use Rattle.css_gen.specs.Generated.{line_numbered, text_numbered, text_in}
 use Rattle.css_gen.specs.Opening as opening
 use Rattle.css_gen.specs.Second.{second_line, second_text}

@@ -8,11 +8,11 @@ use Rattle.css_companion.specs.declared.report.Report.{Report}
 use Rattle.css_lines.specs.Progress.{HasNoFeed}
 use Rattle.css_schedule.specs.Words.{words_of}
 use Rattle.css_schedule.specs.declared.header.Header.{Header}
-use Rattle.css_world.specs.declared.fault.WorldFault.{WorldFault}
-use Rattle.css_world.specs.declared.fault.WorldFault.TheVariants.{Broken, Absent, Player, Memory}
-use Rattle.css_world.specs.Happened.{Numbered}
-use Rattle.css_world.specs.Printed.{wall_text}
-use Rattle.css_world.specs.Verdicts.{line_meant}
+use Rattle.css_meaning.specs.declared.fault.WorldFault.{WorldFault}
+use Rattle.css_meaning.specs.declared.fault.WorldFault.TheVariants.{Broken, Absent, Player, Memory}
+use Rattle.css_meaning.specs.Happened.{Numbered}
+use Rattle.css_meaning.specs.Printed.{wall_text}
+use Rattle.css_meaning.specs.Verdicts.{line_meant}
 
 -- ---- lines
 -- a line with its number raised by one

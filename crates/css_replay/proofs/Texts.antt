@@ -38,14 +38,15 @@ use Rattle.css_companion.specs.Printed as companions
 use Rattle.css_companion.specs.Reports.{HasTickOf}
 use Rattle.css_companion.specs.declared.report.Report.{Report}
 use Rattle.css_companion.specs.declared.report.Report.TheVariants as reports
-use Rattle.css_world.specs.Happened.{Numbered}
-use Rattle.css_world.specs.Standing.{World, appended, AreAccepted}
-use Rattle.css_world.specs.Verdicts.{line_meant, local_of, IsDeclared, report_at, assigned_at, printed_for, carried_out}
-use Rattle.css_world.specs.declared.fault.WorldFault.{WorldFault}
-use Rattle.css_world.specs.declared.fault.WorldFault.TheVariants.{Memory}
-use Rattle.css_world.proofs.Worlds.{all-head, all-tail, carried_ok, second_ok}
-use Rattle.css_world.proofs.Truth.{accepted_lines_are_world, accepted_lines_are_true}
-use Rattle.css_world.specs.Truth.{IsTrueLine}
+use Rattle.css_meaning.specs.Happened.{Numbered}
+use Rattle.css_meaning.specs.Accepted.{AreAccepted}
+use Rattle.css_meaning.specs.Verdicts.{line_meant, local_of, IsDeclared, report_at, assigned_at, printed_for, carried_out}
+use Rattle.css_meaning.specs.declared.fault.WorldFault.{WorldFault}
+use Rattle.css_meaning.specs.declared.fault.WorldFault.TheVariants.{Memory}
+use Rattle.css_meaning.proofs.Worlds.{all-head, all-tail, carried_ok, second_ok}
+use Rattle.css_meaning.proofs.Truth.{accepted_lines_are_world, accepted_lines_are_true}
+use Rattle.css_meaning.specs.Truth.{IsTrueLine}
+use Rattle.css_world.specs.Standing.{World, appended}
 use Rattle.css_replay.specs.Replayed.{Extent, Opening, Outset, Running, Unread, after, declared, next_companion, grown}
 use Rattle.css_replay.specs.Replayed.{reached, read_from, started, with_line, caused, meant_at, ended_at, read_meant}
 use Rattle.css_replay.specs.Replayed.{replayed}

@@ -15,11 +15,11 @@ use Rattle.css_companion.specs.Printed.{line_of}
 use Rattle.css_companion.specs.Reports.{report_by}
 use Rattle.css_companion.specs.declared.report.Cause.{Cause}
 use Rattle.css_companion.specs.declared.report.Report.TheVariants as report
-use Rattle.css_world.specs.Sessions.{setup_of}
-use Rattle.css_world.specs.Happened.{Numbered, history_of}
-use Rattle.css_world.specs.Verdicts.{local_of, report_at, assigned_at}
-use Rattle.css_world.specs.Printed.{wall_line, no_answer_line}
-use Rattle.css_world.specs.Truth.{AreWorld, IsPossibleLanding, AreToldInOrder, AreInStepAt}
+use Rattle.css_meaning.specs.Sessions.{setup_of}
+use Rattle.css_meaning.specs.Happened.{Numbered, history_of}
+use Rattle.css_meaning.specs.Verdicts.{local_of, report_at, assigned_at}
+use Rattle.css_meaning.specs.Printed.{wall_line, no_answer_line}
+use Rattle.css_meaning.specs.Truth.{AreWorld, IsPossibleLanding, AreToldInOrder, AreInStepAt}
 use Rattle.css_replay.specs.Replayed.{Running, reached}
 
 -- the responses and follow-ups that the companion of a line has accepted before it, whatever was lost, repeated or

@@ -9,11 +9,12 @@ use Rattle.css_schedule.specs.declared.fault.LineFault.TheVariants as unread
 use Rattle.css_schedule.specs.declared.header.Header.{Header}
 use Rattle.css_schedule.specs.Headers.{max_companions}
 use Rattle.css_schedule.specs.Ranges.{IsGoodHeader, IsVersion, FitsFirst}
-use Rattle.css_world.specs.declared.fault.WorldFault.{WorldFault}
-use Rattle.css_world.specs.declared.fault.WorldFault.TheVariants as refused
-use Rattle.css_world.specs.Happened.{Numbered}
-use Rattle.css_world.specs.Standing.{World, IsNext, StandsFor}
-use Rattle.css_world.specs.Verdicts.{IsDeclared}
+use Rattle.css_meaning.specs.declared.fault.WorldFault.{WorldFault}
+use Rattle.css_meaning.specs.declared.fault.WorldFault.TheVariants as refused
+use Rattle.css_meaning.specs.Happened.{Numbered}
+use Rattle.css_meaning.specs.Accepted.{IsNext}
+use Rattle.css_meaning.specs.Verdicts.{IsDeclared}
+use Rattle.css_world.specs.Standing.{World, StandsFor}
 use Rattle.css_replay.specs.declared.reader.Cause.{Cause}
 use Rattle.css_replay.specs.declared.reader.Cause.TheVariants.{Form, Absent, Player, Broken}
 use Rattle.css_replay.specs.declared.reader.Replay.{Replay}

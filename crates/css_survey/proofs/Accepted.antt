@@ -10,8 +10,8 @@ use Rattle.std.proofs.lemmas.List.Elements.{All-replicate}
 use Rattle.css_model.specs.WallClock.{IsLocal}
 use Rattle.css_schedule.specs.Ranges.{IsCompanion, IsCount}
 use Rattle.css_schedule.specs.declared.header.Header.{Header}
-use Rattle.css_world.specs.Verdicts.{IsDeclared}
-use Rattle.css_world.specs.Standing.{AreAccepted}
+use Rattle.css_meaning.specs.Verdicts.{IsDeclared}
+use Rattle.css_meaning.specs.Accepted.{AreAccepted}
 use Rattle.css_gen.specs.Course.{started, course_after}
 use Rattle.css_gen.specs.Crowd.{gathered, crowd_after}
 use Rattle.css_gen.specs.Opening.{companion}

@@ -9,11 +9,11 @@ use Rattle.css_schedule.specs.Ranges.{IsLine, IsSecond}
 use Rattle.css_schedule.specs.declared.line.Line.{Line}
 use Rattle.css_schedule.specs.declared.line.Verb.{Verb}
 use Rattle.css_schedule.specs.declared.line.Verb.TheVariants.{Ask, Take, Give, Land, Wall, Print, Sleep}
-use Rattle.css_world.specs.declared.fault.WorldFault.{WorldFault}
-use Rattle.css_world.specs.Happened.{Numbered}
-use Rattle.css_world.specs.Verdicts.{tv_reading, own_reading, shown_tested, reading_tested, tested, carried_out}
-use Rattle.css_world.specs.Verdicts.{line_meant}
-use Rattle.css_world.specs.Standing.{AreAccepted, IsNext}
+use Rattle.css_meaning.specs.declared.fault.WorldFault.{WorldFault}
+use Rattle.css_meaning.specs.Happened.{Numbered}
+use Rattle.css_meaning.specs.Verdicts.{tv_reading, own_reading, shown_tested, reading_tested, tested, carried_out}
+use Rattle.css_meaning.specs.Verdicts.{line_meant}
+use Rattle.css_meaning.specs.Accepted.{AreAccepted, IsNext}
 use Rattle.css_gen.specs.Course.{clock}
 use Rattle.css_gen.specs.Crowd.{senders_after, askers_after}
 use Rattle.css_gen.specs.Opening.{companion}

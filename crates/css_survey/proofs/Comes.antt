@@ -9,10 +9,10 @@ use Rattle.css_server.specs.Tickets.{Ticket, is_greater, greatest_with}
 use Rattle.css_server.specs.Exchanges.{greatest_reading}
 use Rattle.css_schedule.specs.declared.line.Verb.{Verb}
 use Rattle.css_schedule.specs.declared.line.Verb.TheVariants.{Ask, Take, Give, Land, Print, Sleep}
-use Rattle.css_world.specs.Numbering.{numbered}
-use Rattle.css_world.specs.Happened as happened
-use Rattle.css_world.specs.Happened.{Numbered, requests, tickets, taken_for, made_for, is_given, server_of, answers_to}
-use Rattle.css_world.specs.Verdicts.{carried_out, printed_for}
+use Rattle.css_meaning.specs.Numbering.{numbered}
+use Rattle.css_meaning.specs.Happened as happened
+use Rattle.css_meaning.specs.Happened.{Numbered, requests, tickets, taken_for, made_for, is_given, server_of, answers_to}
+use Rattle.css_meaning.specs.Verdicts.{carried_out, printed_for}
 use Rattle.css_gen.specs.Crowd.{senders_after, askers_after}
 use Rattle.css_survey.specs.Generated.{header_for}
 use Rattle.css_survey.proofs.MadeOf.{made_of, made_of-more, numbered-reverse, reverse-more, length-more}

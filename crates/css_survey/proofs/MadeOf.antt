@@ -8,7 +8,7 @@ use Rattle.std.proofs.lemmas.List.Elements.{All-nil, All-cons, All-weaker}
 use Rattle.std.proofs.lemmas.List.{length-append, length-reverse, reverse-append, reverse-reverse}
 use Rattle.std.proofs.Math.ListN.{get_or-append}
 use Rattle.std.proofs.Math.Seq.{get_or-append_seam}
-use Rattle.css_world.specs.Numbering.{numbered}
+use Rattle.css_meaning.specs.Numbering.{numbered}
 use Rattle.css_gen.specs.Crowd.{datagrams}
 
 -- ---- items by number

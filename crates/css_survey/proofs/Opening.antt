@@ -14,13 +14,13 @@ use Rattle.css_schedule.specs.Ranges.{IsLine, IsSecond}
 use Rattle.css_schedule.specs.declared.line.Line.{Line}
 use Rattle.css_schedule.specs.declared.line.Verb.{Verb}
 use Rattle.css_schedule.specs.declared.line.Verb.TheVariants.{Opening, Bring, Up}
-use Rattle.css_world.specs.declared.fault.WorldFault.{WorldFault}
-use Rattle.css_world.specs.Sessions.{setup_of}
-use Rattle.css_world.specs.Happened.{Numbered, events_of}
-use Rattle.css_world.specs.Verdicts.{tv_reading, own_reading, shown_tested, reading_tested, tested, carried_out}
-use Rattle.css_world.specs.Verdicts.{line_meant}
-use Rattle.css_world.specs.Standing.{AreAccepted, IsNext}
-use Rattle.css_world.proofs.Ends.{history_other}
+use Rattle.css_meaning.specs.declared.fault.WorldFault.{WorldFault}
+use Rattle.css_meaning.specs.Sessions.{setup_of}
+use Rattle.css_meaning.specs.Happened.{Numbered, events_of}
+use Rattle.css_meaning.specs.Verdicts.{tv_reading, own_reading, shown_tested, reading_tested, tested, carried_out}
+use Rattle.css_meaning.specs.Verdicts.{line_meant}
+use Rattle.css_meaning.specs.Accepted.{AreAccepted, IsNext}
+use Rattle.css_meaning.proofs.Ends.{history_other}
 use Rattle.css_gen.specs.Opening.{pts, companion, opening_verb, opening_line}
 use Rattle.css_gen.specs.Second.{clock_line, line_placed, openings, second_line}
 use Rattle.css_gen.specs.Generated.{line_numbered}

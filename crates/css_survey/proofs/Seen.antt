@@ -5,12 +5,12 @@ use Rattle.std.specs.Prelude.{Option, Some, None, IfSome, Result, Ok, replicate,
 use Rattle.std.proofs.lemmas.Bool.{eqb-true, eqb-false}
 use Rattle.css_model.specs.Numbers.{precision_ns}
 use Rattle.css_moments.specs.Drifts.{Shown, last_shown}
-use Rattle.css_world.specs.declared.fault.WorldFault.{WorldFault}
-use Rattle.css_world.specs.Clocks.{Seen, told_by, clock_verdict, last_reading, has_woken, reading_verdict}
-use Rattle.css_world.specs.Happened.{Numbered}
-use Rattle.css_world.specs.Verdicts.{local_of, tv_seen, own_seen, seen_of_tv, seen_of, tv_reading, own_reading}
-use Rattle.css_world.specs.Verdicts.{own_shown_tested, shown_tested, reading_tested}
-use Rattle.css_world.proofs.Worlds.{seen_own, seen_other}
+use Rattle.css_meaning.specs.declared.fault.WorldFault.{WorldFault}
+use Rattle.css_meaning.specs.Clocks.{Seen, told_by, clock_verdict, last_reading, has_woken, reading_verdict}
+use Rattle.css_meaning.specs.Happened.{Numbered}
+use Rattle.css_meaning.specs.Verdicts.{local_of, tv_seen, own_seen, seen_of_tv, seen_of, tv_reading, own_reading}
+use Rattle.css_meaning.specs.Verdicts.{own_shown_tested, shown_tested, reading_tested}
+use Rattle.css_meaning.proofs.Worlds.{seen_own, seen_other}
 use Rattle.css_gen.specs.Course.{clock}
 use Rattle.css_gen.specs.Opening.{companion}
 use Rattle.css_survey.specs.Generated.{header_for}

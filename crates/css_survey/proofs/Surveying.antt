@@ -18,15 +18,16 @@ use Rattle.css_schedule.specs.declared.header.Header.{Header}
 use Rattle.css_schedule.specs.declared.line.Line.{Line}
 use Rattle.css_schedule.specs.declared.line.Verb.{Verb}
 use Rattle.css_schedule.specs.declared.line.Verb.TheVariants.{Print}
-use Rattle.css_world.specs.Happened.{Numbered, history_of}
 use Rattle.css_tsmsg.specs.declared.setup.Setup.{Setup}
+use Rattle.css_meaning.specs.Happened.{Numbered, history_of}
+use Rattle.css_meaning.specs.Clocks.{last_reading, has_woken, least_next}
+use Rattle.css_meaning.specs.Sessions.{setup_of}
+use Rattle.css_meaning.specs.Accepted.{AreAccepted, IsNext}
+use Rattle.css_meaning.specs.Truth.{IsCompanionOf}
+use Rattle.css_meaning.specs.Verdicts.{local_of, seen_of, report_at}
 use Rattle.css_world.specs.Asked.{MayBeAsked}
-use Rattle.css_world.specs.Clocks.{last_reading, has_woken, least_next}
-use Rattle.css_world.specs.Sessions.{setup_of}
 use Rattle.css_world.specs.Standing as worlds
-use Rattle.css_world.specs.Standing.{World, AreAccepted, IsNext}
-use Rattle.css_world.specs.Truth.{IsCompanionOf}
-use Rattle.css_world.specs.Verdicts.{local_of, seen_of, report_at}
+use Rattle.css_world.specs.Standing.{World}
 use Rattle.css_gen.specs.Second.{least_lines}
 use Rattle.css_gen.specs.Standing.{AreSome}
 use Rattle.std.proofs.lemmas.Bool.Decides.{nat_tests}

@@ -7,10 +7,10 @@ use Rattle.std.proofs.lemmas.Bool.Decides.{nat_tests}
 use Rattle.std.proofs.lemmas.List.Elements.{All-nil, All-cons, All-head, All-tail, All-weaker}
 use Rattle.css_moments.specs.Drifts.{Shown, Told, Keeps, verdict, last_shown, shown_lately, IsAccepted, IsNext}
 use Rattle.css_moments.proofs.Pairs.{accepts_exactly}
-use Rattle.css_world.specs.declared.fault.WorldFault.{WorldFault}
-use Rattle.css_world.specs.declared.watch.Reading.{Reading}
-use Rattle.css_world.specs.Clocks.{Seen, shown_at, told_with, told_by, broken_by, clock_verdict, last_reading}
-use Rattle.css_world.specs.Clocks.{near_verdict, order_verdict, reading_verdict}
+use Rattle.css_meaning.specs.declared.fault.WorldFault.{WorldFault}
+use Rattle.css_meaning.specs.declared.reading.Reading.{Reading}
+use Rattle.css_meaning.specs.Clocks.{Seen, shown_at, told_with, told_by, broken_by, clock_verdict, last_reading}
+use Rattle.css_meaning.specs.Clocks.{near_verdict, order_verdict, reading_verdict}
 use Rattle.css_gen.specs.Course.{clock}
 use Rattle.css_gen.proofs.Clocks.{clock-keeps, clock-rises, clock-goes_on}
 

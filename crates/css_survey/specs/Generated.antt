@@ -1,8 +1,8 @@
 -- The schedule that is generated of a seed for so many companions, and what is promised of its lines.
 use Rattle.std.specs.Prelude.{ℕ, suc, zero, ◌+◌, ◌<◌, ◌==◌, if◌then◌else◌, List, [], ◌∷◌, ◌++◌}
-use Rattle.css_world.specs.Happened.{Numbered}
-use Rattle.css_world.specs.Verdicts.{IsDeclared}
-use Rattle.css_world.specs.Standing.{AreAccepted}
+use Rattle.css_meaning.specs.Happened.{Numbered}
+use Rattle.css_meaning.specs.Verdicts.{IsDeclared}
+use Rattle.css_meaning.specs.Accepted.{AreAccepted}
 use Rattle.css_gen.specs.Generated.{text_in}
 pub use Rattle.css_gen.specs.Generated.{header_for, heading, line_for}
 use Rattle.css_gen.specs.Standing.{AreSome}

@@ -9,8 +9,8 @@ use Rattle.css_companion.specs.declared.report.Report.TheVariants.{Ticks}
 use Rattle.css_schedule.specs.declared.header.Header.{Header}
 use Rattle.css_schedule.specs.declared.line.Verb.{Verb}
 use Rattle.css_schedule.specs.declared.line.Verb.TheVariants.{Print}
-use Rattle.css_world.specs.Happened.{Numbered}
-use Rattle.css_world.specs.Verdicts.{report_at, assigned_at}
+use Rattle.css_meaning.specs.Happened.{Numbered}
+use Rattle.css_meaning.specs.Verdicts.{report_at, assigned_at}
 use Rattle.css_survey.specs.declared.summary.Summary.{Summary}
 use Rattle.css_survey.specs.Generated.{generated, header_for, heading}
 

@@ -1,6 +1,6 @@
 -- How a survey stands for the lines that it has taken.
 use Rattle.std.specs.Prelude.{ℕ, ◌≡◌, ◌-◌, List}
-use Rattle.css_world.specs.Happened.{Numbered}
+use Rattle.css_meaning.specs.Happened.{Numbered}
 use Rattle.css_world.specs.Standing as worlds
 use Rattle.css_survey.specs.declared.surveyor.Surveyor.{Surveyor}
 use Rattle.css_survey.specs.Generated.{generated, header_for, heading}

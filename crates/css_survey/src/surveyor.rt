@@ -1,8 +1,9 @@
 ghost use Rattle.std.specs.Prelude.{◌≡◌, ◌≤◌, ◌<◌, ◌+◌, ◌^◌, List, ◌∷◌, length};
 ghost use Rattle.std.specs.Prelude.{Some, IfOk, OnOk};
-ghost use Rattle.css_world.specs.Happened.{Numbered};
+ghost use Rattle.css_meaning.specs.Accepted as accepted;
+ghost use Rattle.css_meaning.specs.Happened.{Numbered};
+ghost use Rattle.css_meaning.specs.Verdicts as verdicts;
 ghost use Rattle.css_world.specs.Standing as worlds;
-ghost use Rattle.css_world.specs.Verdicts as verdicts;
 ghost use Rattle.css_gen.specs.Second.{least_lines};
 ghost use Rattle.css_gen.specs.Standing.{AreSome};
 ghost use Rattle.css_survey.specs.Generated as generated;
@@ -54,9 +55,9 @@ fn carry_out(
     printed: &mut Vec<u8>,
 ) -> Result<(), Memory>
     requires { (older : List Numbered) × worlds.StandsFor world.old older
-        × worlds.AreAccepted world.old.header (record { number = number; line = line } ∷ older) }
+        × accepted.AreAccepted world.old.header (record { number = number; line = line } ∷ older) }
     ensures header { world.new.header ≡ world.old.header }
-    ensures stands { (older : List Numbered) → worlds.StandsFor world.old older → worlds.IsNext number older
+    ensures stands { (older : List Numbered) → worlds.StandsFor world.old older → accepted.IsNext number older
         → OnOk result (worlds.StandsFor world.new (record { number = number; line = line } ∷ older)) }
 {
     match world.line(number, line, printed) {
@@ -86,9 +87,9 @@ impl Surveyor {
     // Takes the line of that number.
     fn take(&mut self, number: u64, line: Line) -> Result<(), Memory>
         requires { (older : List Numbered) × Stands self.old older × (length older < 200000)
-            × worlds.AreAccepted self.old.world.header (record { number = number; line = line } ∷ older) }
+            × accepted.AreAccepted self.old.world.header (record { number = number; line = line } ∷ older) }
         ensures header { self.new.world.header ≡ self.old.world.header }
-        ensures stands { (older : List Numbered) → Stands self.old older → worlds.IsNext number older
+        ensures stands { (older : List Numbered) → Stands self.old older → accepted.IsNext number older
             → OnOk result (Stands self.new (record { number = number; line = line } ∷ older)) }
     {
         let who = line.who;

@@ -17,19 +17,19 @@ use Rattle.css_server.specs.Exchanges as servers
 use Rattle.css_server.specs.declared.server.Answered.{Answered}
 use Rattle.css_schedule.specs.declared.header.Header.{Header}
 use Rattle.css_schedule.specs.declared.line.Verb.TheVariants.{Give, Land}
+use Rattle.css_meaning.specs.Happened.{Numbered, tickets, taken_for, datagrams, made_for}
+use Rattle.css_meaning.specs.Happened.{server_of, answers_to, is_given, peer, bytes_of, events_of, history_of}
+use Rattle.css_meaning.specs.Numbering.{numbered}
+use Rattle.css_meaning.specs.Numbering.{stored, spent}
+use Rattle.css_meaning.specs.Verdicts.{is_for}
+use Rattle.css_meaning.proofs.Made.{made_count}
 use Rattle.css_world.specs.declared.television.Television.{Television}
-use Rattle.css_world.specs.Happened.{Numbered, tickets, taken_for, datagrams, made_for}
-use Rattle.css_world.specs.Happened.{server_of, answers_to, is_given, peer, bytes_of, events_of, history_of}
-use Rattle.css_world.specs.Numbering.{numbered}
-use Rattle.css_world.specs.Numbering.{stored, spent}
 use Rattle.css_world.specs.Standing.{Kept, AreStored, owner}
 use Rattle.css_world.specs.Standing.{open_ticket, EndsStand, IsAnswerTo, Answers}
 use Rattle.css_world.specs.Lanes.{LaneStands}
-use Rattle.css_world.specs.Verdicts.{is_for}
 use Rattle.css_world.specs.declared.lane.Lane.{Lane}
 use Rattle.css_world.proofs.Storing.{mapped_some, numbered_within, pushed, spent_stored}
 use Rattle.css_world.proofs.Carrying.{own_line, all_lanes, one_lane}
-use Rattle.css_world.proofs.Made.{made_count}
 use Rattle.css_world.proofs.Numbers.{stored_none, mapped_none}
 
 -- ---- an answer

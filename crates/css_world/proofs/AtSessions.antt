@@ -25,28 +25,29 @@ use Rattle.css_companion.specs.Meanings.{kind_of, texts_of}
 use Rattle.css_companion.specs.Steps.{window, owed, none_owed, IsEvent, IsEntryOf}
 use Rattle.css_companion.specs.declared.event.CompanionEvent.TheVariants as happening
 use Rattle.css_schedule.specs.declared.line.Verb.TheVariants.{Opening, Bring, Up, Present, Close}
+use Rattle.css_meaning.specs.Sessions.{addresses, peer_of, setup_of, is_open, was_opened, heard_from}
+use Rattle.css_meaning.specs.Sessions.{written_to, received_from, told_to, next_down}
+use Rattle.css_meaning.specs.Happened.{Numbered, dialled, hearing, events_of, history_of}
+use Rattle.css_meaning.specs.Numbering.{stored}
+use Rattle.css_meaning.specs.Verdicts.{IsDeclared, played}
+use Rattle.css_meaning.specs.Accepted.{AreAccepted}
+use Rattle.css_meaning.proofs.Peers.{cii_of, ts_of, cii-ts, ts-cii, others-peer}
+use Rattle.css_meaning.proofs.Entries.{dialled-open, dialled-was, dialled-open_apart}
+use Rattle.css_meaning.proofs.Entries.{dialled-was_apart, closed-open, closed-open_apart, heard-apart, wrote-one}
+use Rattle.css_meaning.proofs.Entries.{heard-one as heard-now, wrote-apart, received-one, received-apart}
+use Rattle.css_meaning.proofs.Staged.{never_opened, no_talk}
+use Rattle.css_meaning.proofs.InOrder.{text_is_taken}
+use Rattle.css_meaning.proofs.Dialled.{dialled_as, open_kind}
 use Rattle.css_world.specs.declared.lane.Lane.{Lane}
 use Rattle.css_world.specs.declared.session.Phase.TheVariants as phases
-use Rattle.css_world.specs.Sessions.{addresses, peer_of, setup_of, is_open, was_opened, heard_from}
-use Rattle.css_world.specs.Sessions.{written_to, received_from, told_to, next_down}
-use Rattle.css_world.specs.Happened.{Numbered, dialled, hearing, events_of, history_of}
-use Rattle.css_world.specs.Numbering.{stored}
-use Rattle.css_world.specs.Verdicts.{IsDeclared, played}
 use Rattle.css_world.specs.Flights.{Session, opened, closed, first_in, rest_in}
 use Rattle.css_world.specs.Flights.{with_written, SessionCarries, SessionStands, HasNews}
 use Rattle.css_world.specs.Lanes.{LaneStands, KeepsAllButTexts, IsPlayed, KeepsAllBut, session_at, other}
 use Rattle.css_world.specs.Lanes.{next_at, taken_at, heard_as, closed_as, Greets}
-use Rattle.css_world.specs.Standing.{Kept as Both, EndsStand, AreAccepted}
+use Rattle.css_world.specs.Standing.{Kept as Both, EndsStand}
 use Rattle.css_world.proofs.Carrying.{own_line, one_lane}
-use Rattle.css_world.proofs.Peers.{cii_of, ts_of, cii-ts, ts-cii, others-peer}
-use Rattle.css_world.proofs.Entries.{dialled-open, dialled-was, dialled-open_apart}
-use Rattle.css_world.proofs.Entries.{dialled-was_apart, closed-open, closed-open_apart, heard-apart, wrote-one}
-use Rattle.css_world.proofs.Entries.{heard-one as heard-now, wrote-apart, received-one, received-apart}
 use Rattle.css_world.proofs.Flights.{is-live}
 use Rattle.css_world.proofs.Flights.{heard-one, raised-one, written-one}
-use Rattle.css_world.proofs.Staged.{never_opened, no_talk}
-use Rattle.css_world.proofs.InOrder.{text_is_taken}
-use Rattle.css_world.proofs.Dialled.{dialled_as, open_kind}
 use Rattle.css_world.proofs.Verbs.{quiet, session-played, aside, dialled-aside, wrote-aside, WhenPlayed, WhenAttended}
 use Rattle.css_world.proofs.Verbs.{WhenGreeted}
 use Rattle.css_world.proofs.Verbs.{never-open, opens, can-close, closes, can-bring, can-raise, session_as}

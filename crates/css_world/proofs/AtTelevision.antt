@@ -15,18 +15,18 @@ use Rattle.css_schedule.specs.declared.line.Verb.{Verb}
 use Rattle.css_schedule.specs.declared.line.Verb.TheVariants.{Wall, Print}
 use Rattle.css_schedule.specs.declared.line.Verb.TheVariants.{Programme, Timeline, Viewer}
 use Rattle.css_schedule.specs.declared.line.Verb.TheVariants.{Sleep}
+use Rattle.css_meaning.specs.Sessions.{peer_of}
+use Rattle.css_meaning.specs.Happened.{Numbered, datagrams, done_by, events_of, history_of}
+use Rattle.css_meaning.specs.Numbering.{stored}
+use Rattle.css_meaning.specs.Verdicts.{played}
+use Rattle.css_meaning.proofs.Peers.{cii_of, ts_of}
+use Rattle.css_meaning.proofs.Entries.{concerns, received_not}
 use Rattle.css_world.specs.declared.lane.Lane.{Lane}
-use Rattle.css_world.specs.Sessions.{peer_of}
-use Rattle.css_world.specs.Happened.{Numbered, datagrams, done_by, events_of, history_of}
-use Rattle.css_world.specs.Numbering.{stored}
-use Rattle.css_world.specs.Verdicts.{played}
 use Rattle.css_world.specs.Lanes.{LaneStands, LanesStand, IsPlayed, AllArePlayed, KeepsAllButTexts}
 use Rattle.css_world.specs.Standing.{Kept, EndsStand, IsAtTv}
 use Rattle.css_world.proofs.Carrying.{own_line, histories, all_lanes, own_lanes, one_lane}
 use Rattle.css_world.proofs.Delivered.{kept_in_each}
 use Rattle.css_world.proofs.Numbers.{stored_within, stored_same, set_there, set_others}
-use Rattle.css_world.proofs.Peers.{cii_of, ts_of}
-use Rattle.css_world.proofs.Entries.{concerns, received_not}
 use Rattle.css_world.proofs.Verbs.{quiet, session-played, aside, turn-aside, WhenPlayed, session_as}
 
 -- ---- an event of the television

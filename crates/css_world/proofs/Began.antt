@@ -14,17 +14,17 @@ use Rattle.css_tv.specs.Standing as tvs
 use Rattle.css_schedule.specs.Ranges.{IsHeader, IsCount}
 use Rattle.css_schedule.specs.declared.header.CompanionLine.{CompanionLine}
 use Rattle.css_schedule.specs.declared.header.Header.{Header}
+use Rattle.css_meaning.specs.Happened.{server_of}
+use Rattle.css_meaning.specs.Numbering.{stored, numbered}
+use Rattle.css_meaning.specs.Sessions.{addresses, setup_of, peer_of}
+use Rattle.css_meaning.specs.Verdicts.{IsDeclared, local_of}
 use Rattle.css_world.specs.declared.lane.Lane.{Lane}
 use Rattle.css_world.specs.declared.watch.Watch.{Watch}
 use Rattle.css_world.specs.declared.television.Television.{Television}
 use Rattle.css_world.specs.Flights.{Session, SessionStands, unopened}
-use Rattle.css_world.specs.Happened.{server_of}
 use Rattle.css_world.specs.Lanes.{IsFresh, AreFresh, IsLaneOf, setup_by}
-use Rattle.css_world.specs.Numbering.{stored, numbered}
-use Rattle.css_world.specs.Sessions.{addresses, setup_of, peer_of}
 use Rattle.css_world.specs.Standing.{Kept, EndsAre, EndsStand, IsReady, AreStored, AreNew, WatchStands}
 use Rattle.css_world.specs.Standing.{request_bytes, owner, open_ticket}
-use Rattle.css_world.specs.Verdicts.{IsDeclared, local_of}
 use Rattle.css_world.proofs.Fresh.{Each}
 use Rattle.css_world.proofs.Numbers.{stored_within, stored_there}
 

@@ -21,17 +21,17 @@ use Rattle.css_server.specs.Exchanges.{greatest_reading}
 use Rattle.css_schedule.specs.declared.header.Header.{Header}
 use Rattle.css_schedule.specs.declared.line.Verb.{Verb}
 use Rattle.css_schedule.specs.declared.line.Verb.TheVariants.{Ask, Take}
+use Rattle.css_meaning.specs.Happened.{Numbered, requests, askers, tickets, ticket_at, taken_for, datagrams}
+use Rattle.css_meaning.specs.Happened.{is_given, peer, done_by, events_of, history_of}
+use Rattle.css_meaning.specs.Numbering.{numbered}
+use Rattle.css_meaning.specs.Numbering.{stored}
+use Rattle.css_meaning.proofs.Ends.{history_now, history_other}
 use Rattle.css_world.specs.declared.television.Television.{Television}
-use Rattle.css_world.specs.Happened.{Numbered, requests, askers, tickets, ticket_at, taken_for, datagrams}
-use Rattle.css_world.specs.Happened.{is_given, peer, done_by, events_of, history_of}
-use Rattle.css_world.specs.Numbering.{numbered}
-use Rattle.css_world.specs.Numbering.{stored}
 use Rattle.css_world.specs.Standing.{Kept, AreStored, request_bytes, owner}
 use Rattle.css_world.specs.Standing.{open_ticket, EndsStand}
 use Rattle.css_world.specs.Lanes.{LaneStands, LanesStand}
 use Rattle.css_tv.specs.declared.event.TvEvent.{TvEvent}
 use Rattle.css_world.specs.declared.lane.Lane.{Lane}
-use Rattle.css_world.proofs.Ends.{history_now, history_other}
 use Rattle.css_world.proofs.Numbers.{stored_same, set_there, set_others}
 use Rattle.css_world.proofs.Storing.{mapped_some, pushed}
 

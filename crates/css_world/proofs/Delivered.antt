@@ -7,11 +7,11 @@ use Rattle.css_num.specs.declared.protocol.Kind.TheVariants as kind
 use Rattle.css_sessions.specs.declared.session.Said.{Said}
 use Rattle.css_tv.specs.declared.event.TvOut.{TvOut}
 use Rattle.css_tv.specs.declared.event.TvOut.TheVariants as outs
+use Rattle.css_meaning.specs.Numbering.{stored}
+use Rattle.css_meaning.specs.Sessions.{peer_of}
 use Rattle.css_world.specs.declared.lane.Lane.{Lane}
 use Rattle.css_world.specs.declared.session.Phase.{Phase}
 use Rattle.css_world.specs.declared.session.Phase.TheVariants.{Unopened, Open, Over}
-use Rattle.css_world.specs.Numbering.{stored}
-use Rattle.css_world.specs.Sessions.{peer_of}
 use Rattle.css_world.specs.Flights.{Session, grown, with_news, news_of}
 use Rattle.css_world.specs.Lanes.{IsFor, TakesUp, AllTakeUp, KeepsAllButTexts}
 use Rattle.css_world.proofs.News.{told-next}

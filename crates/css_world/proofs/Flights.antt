@@ -5,12 +5,12 @@ use Rattle.std.proofs.Common.{inr, append_assoc, length-append, length-drop, eq-
 use Rattle.std.specs.Prelude.{Some, None, Ok, Err, reverse}
 use Rattle.std.proofs.lemmas.List.{reverse-reverse, reverse-append, take-append-drop}
 use Rattle.std.proofs.Math.Seq.{take-append_seam}
-use Rattle.css_world.specs.declared.fault.WorldFault.{WorldFault}
-use Rattle.css_world.specs.declared.fault.WorldFault.TheVariants.{Absent}
+use Rattle.css_meaning.specs.declared.fault.WorldFault.{WorldFault}
+use Rattle.css_meaning.specs.declared.fault.WorldFault.TheVariants.{Absent}
+use Rattle.css_meaning.specs.Numbering.{numbered}
+use Rattle.css_meaning.specs.Sessions.{in_flight, next_of}
 use Rattle.css_world.specs.declared.session.Phase.{Phase}
 use Rattle.css_world.specs.declared.session.Phase.TheVariants.{Unopened, Open, Over}
-use Rattle.css_world.specs.Numbering.{numbered}
-use Rattle.css_world.specs.Sessions.{in_flight, next_of}
 use Rattle.css_world.specs.Flights.{Session, opened_from, closed_from, grown, with_news, with_written}
 use Rattle.css_world.specs.Flights.{first_in, rest_in, phase_of, queue_of, SessionCarries}
 

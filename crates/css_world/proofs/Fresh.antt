@@ -4,7 +4,7 @@ use Rattle.std.proofs.Common.{length, length-append, get_or}
 use Rattle.std.specs.Prelude.{Some, slice_get}
 use Rattle.std.proofs.lemmas.Option.{slice_get_read}
 use Rattle.css_schedule.specs.declared.header.CompanionLine.{CompanionLine}
-use Rattle.css_world.specs.Numbering.{stored}
+use Rattle.css_meaning.specs.Numbering.{stored}
 use Rattle.css_world.proofs.Numbers.{stored_within, stored_pushed}
 
 -- each item is one of its companion

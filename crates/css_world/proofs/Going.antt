@@ -13,24 +13,25 @@ use Rattle.css_schedule.specs.Ranges.{IsLine, IsSecond}
 use Rattle.css_schedule.specs.declared.header.Header.{Header}
 use Rattle.css_schedule.specs.declared.line.Line.{Line}
 use Rattle.css_schedule.specs.declared.line.Verb.{Verb}
+use Rattle.css_meaning.specs.declared.fault.WorldFault.{WorldFault}
+use Rattle.css_meaning.specs.declared.fault.WorldFault.TheVariants.{Absent, Memory}
+use Rattle.css_meaning.specs.Clocks.{told_by, shown_at, has_woken, last_reading, near_verdict, reading_verdict}
+use Rattle.css_meaning.specs.Happened.{Numbered, events_of}
+use Rattle.css_meaning.specs.Accepted.{IsNext}
+use Rattle.css_meaning.specs.Verdicts.{tv_seen, seen_of_tv, seen_of, local_of, tv_reading, own_reading}
+use Rattle.css_meaning.specs.Verdicts.{reading_tested, tested, can_happen, event_at, played, printed_for, carried_out}
+use Rattle.css_meaning.specs.Verdicts.{line_meant}
+use Rattle.css_meaning.proofs.Accepting.{next_own}
+use Rattle.css_meaning.proofs.Lawful.{order-ok}
+use Rattle.css_meaning.proofs.Truth.{accepted_lines_are_true}
+use Rattle.css_meaning.proofs.Worlds.{second_ok}
 use Rattle.css_world.specs.declared.both.Ends.{Ends}
 use Rattle.css_world.specs.declared.clocks.Clocks.{Clocks}
-use Rattle.css_world.specs.declared.fault.WorldFault.{WorldFault}
-use Rattle.css_world.specs.declared.fault.WorldFault.TheVariants.{Absent, Memory}
-use Rattle.css_world.specs.Clocks.{told_by, shown_at, has_woken, last_reading, near_verdict, reading_verdict}
-use Rattle.css_world.specs.Happened.{Numbered, events_of}
 use Rattle.css_world.specs.Standing.{World, Kept, EndsStand, IsReady, StandsFor, carried, CarriesOut, PrintsFor, Prints}
-use Rattle.css_world.specs.Standing.{ShowsBy, ShownTo, ReadsBy, ReadTo, IsNext, AreNext, MayRead, MayTake, Means}
+use Rattle.css_world.specs.Standing.{ShowsBy, ShownTo, ReadsBy, ReadTo, AreNext, MayRead, MayTake, Means}
 use Rattle.css_world.specs.Standing.{GoesOn, appended}
-use Rattle.css_world.specs.Truth.{TellsTruth}
-use Rattle.css_world.specs.Verdicts.{tv_seen, seen_of_tv, seen_of, local_of, tv_reading, own_reading}
-use Rattle.css_world.specs.Verdicts.{reading_tested, tested, can_happen, event_at, played, printed_for, carried_out}
-use Rattle.css_world.specs.Verdicts.{line_meant}
-use Rattle.css_world.proofs.Accepting.{next_own}
-use Rattle.css_world.proofs.Lawful.{order-ok}
+use Rattle.css_world.specs.Standing.{TellsTruth}
 use Rattle.css_world.proofs.Owning.{are_on}
-use Rattle.css_world.proofs.Truth.{accepted_lines_are_true}
-use Rattle.css_world.proofs.Worlds.{second_ok}
 
 -- ---- what is answered
 -- what is carried out at a line, by whether it can be and what is printed

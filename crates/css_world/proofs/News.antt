@@ -19,9 +19,9 @@ use Rattle.css_tv.specs.declared.event.TvEvent.{TvEvent}
 use Rattle.css_tv.specs.declared.event.TvOut.{TvOut}
 use Rattle.css_tv.specs.declared.event.TvOut.TheVariants as outs
 use Rattle.css_tv.specs.declared.fault.TvFault.{TvFault}
+use Rattle.css_meaning.specs.Sessions.{addresses, told_to}
 use Rattle.css_world.specs.declared.session.Phase.{Phase}
 use Rattle.css_world.specs.declared.session.Phase.TheVariants.{Unopened, Open, Over}
-use Rattle.css_world.specs.Sessions.{addresses, told_to}
 use Rattle.css_world.specs.Flights.{Session, grown, with_news, news_of}
 
 -- ---- texts one after the other

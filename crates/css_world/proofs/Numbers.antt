@@ -6,7 +6,7 @@ use Rattle.std.specs.Option.{option_map}
 use Rattle.std.proofs.lemmas.Bool.Decides.{eqb_tells}
 use Rattle.std.proofs.lemmas.List.{length-map}
 use Rattle.std.proofs.lemmas.Option.{slice_get-map, slice_get_within}
-use Rattle.css_world.specs.Numbering.{stored}
+use Rattle.css_meaning.specs.Numbering.{stored}
 use Rattle.css_world.proofs.Storing.{mapped_some, slice_get-set_other, slice_get-before, slice_get-pushed}
 
 -- ---- what is there

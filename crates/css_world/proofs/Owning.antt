@@ -14,20 +14,20 @@ use Rattle.css_schedule.specs.declared.header.Header.{Header}
 use Rattle.css_schedule.specs.declared.line.Verb.{Verb}
 use Rattle.css_schedule.specs.declared.line.Verb.TheVariants.{Sleep}
 use Rattle.css_tv.specs.Stages.{Television as Tv}
+use Rattle.css_meaning.specs.declared.fault.WorldFault.{WorldFault}
+use Rattle.css_meaning.specs.declared.fault.WorldFault.TheVariants as faults
+use Rattle.css_meaning.specs.declared.reading.Reading.{Reading}
+use Rattle.css_meaning.specs.Clocks.{Seen, least_next, last_reading, has_woken}
+use Rattle.css_meaning.specs.Happened.{Numbered, server_of}
+use Rattle.css_meaning.specs.Numbering.{stored}
+use Rattle.css_meaning.specs.Verdicts.{own_reading, seen_of}
+use Rattle.css_meaning.proofs.Worlds.{seen_own, seen_other}
 use Rattle.css_world.specs.declared.both.Ends.{Ends}
-use Rattle.css_world.specs.declared.fault.WorldFault.{WorldFault}
-use Rattle.css_world.specs.declared.fault.WorldFault.TheVariants as faults
 use Rattle.css_world.specs.declared.lane.Lane.{Lane}
-use Rattle.css_world.specs.declared.watch.Reading.{Reading}
-use Rattle.css_world.specs.Clocks.{Seen, least_next, last_reading, has_woken}
-use Rattle.css_world.specs.Happened.{Numbered, server_of}
 use Rattle.css_world.specs.Lanes.{IsLaneOf, KeepsAllButTexts, KeepsTv}
-use Rattle.css_world.specs.Numbering.{stored}
 use Rattle.css_world.specs.Standing.{Kept, EndsAre, DeclaresTheSame, IsReady, MayRead, MayTake, KeepsBoth, KeepsRefused}
-use Rattle.css_world.specs.Verdicts.{own_reading, seen_of}
 use Rattle.css_world.proofs.Delivered.{as_many, kept_in_each}
 use Rattle.css_world.proofs.Numbers.{each_set, set_part, stored_within}
-use Rattle.css_world.proofs.Worlds.{seen_own, seen_other}
 
 -- ---- the least next reading
 -- the next reading after a sleep is at most one more than a reading that may come now

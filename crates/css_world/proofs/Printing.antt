@@ -9,13 +9,13 @@ use Rattle.css_tsmsg.specs.declared.setup.Setup.{Setup}
 use Rattle.css_companion.specs.Meanings.{report_after, assigned_after}
 use Rattle.css_companion.specs.Standing as companions
 use Rattle.css_companion.specs.declared.report.Report.{Report}
+use Rattle.css_meaning.specs.Happened.{Numbered, history_of}
+use Rattle.css_meaning.specs.Numbering.{stored}
+use Rattle.css_meaning.specs.Truth.{IsCompanionOf}
+use Rattle.css_meaning.specs.Verdicts.{local_of, span_at, report_at, assigned_at}
 use Rattle.css_world.specs.declared.lane.Lane.{Lane}
 use Rattle.css_world.specs.Asked.{MayBeAsked}
-use Rattle.css_world.specs.Happened.{Numbered, history_of}
-use Rattle.css_world.specs.Numbering.{stored}
 use Rattle.css_world.specs.Standing.{World, Kept, IsReady, StandsFor}
-use Rattle.css_world.specs.Truth.{IsCompanionOf}
-use Rattle.css_world.specs.Verdicts.{local_of, span_at, report_at, assigned_at}
 use Rattle.css_world.proofs.Numbers.{stored_within, stored_there}
 
 -- the span that it tells of the wall clock

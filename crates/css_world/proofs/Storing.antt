@@ -4,7 +4,7 @@ use Rattle.std.proofs.Common.{refl, ap, sym, subst, ◌∙◌, inl, inr, length-
 use Rattle.std.specs.Prelude.{Option, Some, None, slice_get, slice_set}
 use Rattle.std.specs.Option.{option_map}
 use Rattle.std.proofs.lemmas.Bool.Decides.{eqb_tells}
-use Rattle.css_world.specs.Numbering.{numbered, stored, spent}
+use Rattle.css_meaning.specs.Numbering.{numbered, stored, spent}
 use Rattle.css_world.specs.Standing.{AreStored}
 
 -- ---- options

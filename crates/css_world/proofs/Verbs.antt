@@ -27,24 +27,25 @@ use Rattle.css_schedule.specs.declared.line.Verb.{Verb}
 use Rattle.css_schedule.specs.declared.line.Verb.TheVariants.{Ask, Take, Give, Land}
 use Rattle.css_schedule.specs.declared.line.Verb.TheVariants.{Programme, Timeline, Viewer}
 use Rattle.css_schedule.specs.declared.line.Verb.TheVariants.{Opening, Bring, Up, Present, Close}
-use Rattle.css_world.specs.declared.fault.WorldFault.{WorldFault}
-use Rattle.css_world.specs.declared.fault.WorldFault.TheVariants.{Absent, Memory}
+use Rattle.css_meaning.specs.declared.fault.WorldFault.{WorldFault}
+use Rattle.css_meaning.specs.declared.fault.WorldFault.TheVariants.{Absent, Memory}
+use Rattle.css_meaning.specs.Sessions.{addresses, peer_of, is_open, was_opened, heard_from}
+use Rattle.css_meaning.specs.Sessions.{written_to, received_from, told_to, next_down, next_up}
+use Rattle.css_meaning.specs.Happened.{Numbered, tickets, events_of, history_of}
+use Rattle.css_meaning.specs.Verdicts.{can_happen, event_at, played}
+use Rattle.css_meaning.specs.Accepted.{AreAccepted}
+use Rattle.css_meaning.proofs.Peers.{ts_of}
+use Rattle.css_meaning.proofs.Dialled.{open_was, unwritten, untold}
 use Rattle.css_world.specs.declared.lane.Lane.{Lane}
 use Rattle.css_world.specs.declared.session.Phase.TheVariants as phases
 use Rattle.css_model.specs.declared.Kind.TheVariants as session
-use Rattle.css_world.specs.Sessions.{addresses, peer_of, is_open, was_opened, heard_from}
-use Rattle.css_world.specs.Sessions.{written_to, received_from, told_to, next_down, next_up}
-use Rattle.css_world.specs.Happened.{Numbered, tickets, events_of, history_of}
-use Rattle.css_world.specs.Verdicts.{can_happen, event_at, played}
 use Rattle.css_world.specs.Flights.{Session, phase_of, opened, closed, first_in}
 use Rattle.css_world.specs.Flights.{SessionCarries, SessionStands, HasNews}
 use Rattle.css_world.specs.Lanes.{LanesStand, AllArePlayed, IsDialled}
-use Rattle.css_world.specs.Standing.{Kept, EndsStand, AreAccepted, IsAtTv, carried, Carries}
+use Rattle.css_world.specs.Standing.{Kept, EndsStand, IsAtTv, carried, Carries}
 use Rattle.css_world.proofs.Carrying.{own_line, histories}
-use Rattle.css_world.proofs.Peers.{ts_of}
 use Rattle.css_world.proofs.Flights.{opened-ok, opened-err, closed-ok, closed-err, is-live, first-down, first-up}
 use Rattle.css_world.proofs.Flights.{told-more, opened-now, closed-now}
-use Rattle.css_world.proofs.Dialled.{open_was, unwritten, untold}
 
 -- ---- whether it can be carried out
 -- what can happen is carried out as the television takes it

@@ -12,19 +12,19 @@ use Rattle.css_moments.specs.Standing as drifts
 use Rattle.css_moments.specs.Standing.{Drift}
 use Rattle.css_schedule.specs.Owners.{is_sleep}
 use Rattle.css_schedule.specs.declared.header.Header.{Header}
+use Rattle.css_meaning.specs.declared.fault.WorldFault.{WorldFault}
+use Rattle.css_meaning.specs.declared.reading.Reading.{Reading}
+use Rattle.css_meaning.specs.Clocks.{Seen, last_reading, has_woken, read_verdict, reading_verdict}
+use Rattle.css_meaning.specs.Clocks.{shown_at, told_by, told_with, broken_by, clock_verdict}
+use Rattle.css_meaning.specs.Happened.{Numbered}
+use Rattle.css_meaning.specs.Numbering.{stored}
+use Rattle.css_meaning.specs.Verdicts.{tv_seen, own_seen, tv_reading, own_reading, seen_of_tv, seen_of, local_of}
+use Rattle.css_meaning.specs.Verdicts.{own_shown_tested, shown_tested, reading_tested}
+use Rattle.css_meaning.proofs.Worlds.{seen_own, seen_other}
 use Rattle.css_world.specs.declared.clocks.Clocks.{Clocks}
-use Rattle.css_world.specs.declared.fault.WorldFault.{WorldFault}
-use Rattle.css_world.specs.declared.watch.Reading.{Reading}
 use Rattle.css_world.specs.declared.watch.Watch.{Watch}
-use Rattle.css_world.specs.Clocks.{Seen, last_reading, has_woken, read_verdict, reading_verdict}
-use Rattle.css_world.specs.Clocks.{shown_at, told_by, told_with, broken_by, clock_verdict}
-use Rattle.css_world.specs.Happened.{Numbered}
-use Rattle.css_world.specs.Numbering.{stored}
 use Rattle.css_world.specs.Standing.{WatchStands, ClocksStand}
-use Rattle.css_world.specs.Verdicts.{tv_seen, own_seen, tv_reading, own_reading, seen_of_tv, seen_of, local_of}
-use Rattle.css_world.specs.Verdicts.{own_shown_tested, shown_tested, reading_tested}
 use Rattle.css_world.proofs.Numbers.{each_written, stored_within}
-use Rattle.css_world.proofs.Worlds.{seen_own, seen_other}
 
 -- ---- one watch
 -- it stands for the same lines

@@ -1,13 +1,13 @@
 -- What may be asked of a companion of a world.
 use Rattle.std.specs.Prelude.{◌≡◌, ◌≤◌, ℕ, Some, List}
 use Rattle.css_companion.specs.Standing.{Companion, own_of}
-use Rattle.css_world.specs.Clocks.{least_next, last_reading, has_woken}
-use Rattle.css_world.specs.Happened.{Numbered}
-use Rattle.css_world.specs.Numbering.{stored}
-use Rattle.css_world.specs.Sessions.{setup_of}
-use Rattle.css_world.specs.Verdicts.{local_of, seen_of}
+use Rattle.css_meaning.specs.Clocks.{least_next, last_reading, has_woken}
+use Rattle.css_meaning.specs.Happened.{Numbered}
+use Rattle.css_meaning.specs.Numbering.{stored}
+use Rattle.css_meaning.specs.Sessions.{setup_of}
+use Rattle.css_meaning.specs.Verdicts.{local_of, seen_of}
+use Rattle.css_meaning.specs.Truth.{IsCompanionOf}
 use Rattle.css_world.specs.Standing.{World}
-use Rattle.css_world.specs.Truth.{IsCompanionOf}
 use Rattle.css_world.specs.declared.lane.Lane.{Lane}
 
 -- This is companion `who` of the world, which the header has. It takes its own clock for what the header declares of

@@ -7,11 +7,11 @@ use Rattle.css_sessions.specs.Told.{said_to}
 use Rattle.css_tv.specs.Standing.{said_by}
 use Rattle.css_tv.specs.declared.event.TvEvent.{TvEvent}
 use Rattle.css_tv.specs.declared.event.TvOut.{TvOut}
-use Rattle.css_world.specs.declared.fault.WorldFault.{WorldFault}
-use Rattle.css_world.specs.declared.fault.WorldFault.TheVariants.{Absent}
+use Rattle.css_meaning.specs.declared.fault.WorldFault.{WorldFault}
+use Rattle.css_meaning.specs.declared.fault.WorldFault.TheVariants.{Absent}
+use Rattle.css_meaning.specs.Sessions.{is_open, was_opened, heard_from, written_to, received_from, told_to, in_flight}
 use Rattle.css_world.specs.declared.session.Phase.{Phase}
 use Rattle.css_world.specs.declared.session.Phase.TheVariants.{Unopened, Open, Over}
-use Rattle.css_world.specs.Sessions.{is_open, was_opened, heard_from, written_to, received_from, told_to, in_flight}
 
 -- The phase of a session, and the texts in flight on it, the oldest first: those of the television go down, and those
 -- of the companion go up.

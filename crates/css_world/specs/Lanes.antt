@@ -17,19 +17,19 @@ use Rattle.css_companion.specs.Steps.{owed, stepped, IsEntryOf}
 use Rattle.css_companion.specs.declared.event.CompanionEvent.{CompanionEvent}
 use Rattle.css_companion.specs.declared.event.CompanionEvent.TheVariants as happening
 use Rattle.css_companion.specs.declared.fault.CompanionFault.{CompanionFault}
-use Rattle.css_world.specs.declared.fault.WorldFault.{WorldFault}
-use Rattle.css_world.specs.declared.fault.WorldFault.TheVariants as faults
 use Rattle.css_schedule.specs.declared.header.CompanionLine.{CompanionLine}
 use Rattle.css_tsmsg.specs.Setups.{setup_text}
 use Rattle.css_tsmsg.specs.declared.setup.Setup.{Setup}
 use Rattle.css_schedule.specs.declared.header.Header.{Header}
+use Rattle.css_meaning.specs.declared.fault.WorldFault.{WorldFault}
+use Rattle.css_meaning.specs.declared.fault.WorldFault.TheVariants as faults
+use Rattle.css_meaning.specs.Clocks.{Seen, least_next, last_reading, has_woken}
+use Rattle.css_meaning.specs.Numbering.{stored}
+use Rattle.css_meaning.specs.Sessions.{peer_of, setup_of}
+use Rattle.css_meaning.specs.Verdicts.{local_of, played}
 use Rattle.css_world.specs.declared.lane.Lane.{Lane}
-use Rattle.css_world.specs.Clocks.{Seen, least_next, last_reading, has_woken}
-use Rattle.css_world.specs.Numbering.{stored}
-use Rattle.css_world.specs.Sessions.{peer_of, setup_of}
 use Rattle.css_world.specs.Flights.{Session, unopened, SessionStands, HasNews, with_news, with_written, news_of}
 use Rattle.css_world.specs.Flights.{first_in, rest_in}
-use Rattle.css_world.specs.Verdicts.{local_of, played}
 
 -- The companion with this number stands for its history, and its sessions for that and for what happened at the
 -- television.

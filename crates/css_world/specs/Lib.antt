@@ -1,15 +1,5 @@
-pub mod Numbering
-pub mod Sessions
-pub mod Happened
-pub mod Worlds
-pub mod Printed
-pub mod Clocks
-pub mod Verdicts
-pub mod Arrived
 pub mod Flights
 pub mod Lanes
 pub mod Standing
-pub mod Truth
-pub mod FaultWords
 pub mod Asked
 pub mod Lending

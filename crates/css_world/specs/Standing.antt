@@ -1,6 +1,6 @@
 -- Which lines of a schedule a world stands for.
 use Rattle.std.specs.Prelude.{ℕ, ◌≡◌, ◌<◌, ◌≤◌, false, if◌then◌else◌, map, List, [], ◌∷◌, ◌++◌, length}
-use Rattle.std.specs.Prelude.{Option, Some, None, Result, Ok, Err, OnOk, IfSome}
+use Rattle.std.specs.Prelude.{Option, Some, None, Result, Err, OnOk, IfSome}
 use Rattle.std.specs.Option.{option_map, ForSome}
 use Rattle.std.specs.Result.{result_map_both}
 use Rattle.std.specs.List.{AllByRecursion}
@@ -14,29 +14,30 @@ use Rattle.css_server.specs.Exchanges as servers
 use Rattle.css_tv.specs.Standing as tvs
 use Rattle.css_tv.specs.declared.event.TvEvent.{TvEvent}
 use Rattle.css_tv.specs.declared.event.TvEvent.TheVariants as tv_events
-use Rattle.css_schedule.specs.Ranges.{IsLine, IsSecond}
 use Rattle.css_schedule.specs.declared.header.Header.{Header}
 use Rattle.css_schedule.specs.declared.header.CompanionLine.{CompanionLine}
 use Rattle.css_schedule.specs.declared.line.Line.{Line}
 use Rattle.css_schedule.specs.declared.line.Verb.{Verb}
 use Rattle.css_schedule.specs.declared.line.Verb.TheVariants as verbs
 use Rattle.css_moments.specs.Standing as drifts
-use Rattle.css_world.specs.declared.fault.WorldFault.{WorldFault}
-use Rattle.css_world.specs.declared.fault.WorldFault.TheVariants as faults
+use Rattle.css_meaning.specs.declared.fault.WorldFault.{WorldFault}
+use Rattle.css_meaning.specs.declared.fault.WorldFault.TheVariants as faults
+use Rattle.css_meaning.specs.Numbering.{numbered, stored}
+use Rattle.css_meaning.specs.Sessions.{addresses}
+use Rattle.css_meaning.specs.Happened.{Numbered, requests, askers, tickets, taken_for, datagrams, made_for, is_given}
+use Rattle.css_meaning.specs.Happened.{server_of}
+use Rattle.css_meaning.specs.Happened.{events_of, history_of}
+use Rattle.css_meaning.specs.Clocks.{Seen, told_by, last_reading, has_woken, least_next}
+use Rattle.css_meaning.specs.Verdicts.{IsDeclared, local_of, own_reading, seen_of_tv, seen_of, shown_tested}
+use Rattle.css_meaning.specs.Verdicts.{reading_tested}
+use Rattle.css_meaning.specs.Verdicts.{can_happen, event_at, played, carried_out, line_meant}
+use Rattle.css_meaning.specs.Accepted.{AreAccepted, IsNext}
+use Rattle.css_meaning.specs.Truth.{IsTrueLine}
 use Rattle.css_world.specs.declared.lane.Lane.{Lane}
 use Rattle.css_world.specs.declared.television.Television.{Television}
 use Rattle.css_world.specs.declared.both.Ends.{Ends}
 use Rattle.css_world.specs.declared.clocks.Clocks.{Clocks}
 use Rattle.css_world.specs.declared.watch.Watch.{Watch}
-use Rattle.css_world.specs.Numbering.{numbered, stored}
-use Rattle.css_world.specs.Sessions.{addresses}
-use Rattle.css_world.specs.Happened.{Numbered, requests, askers, tickets, taken_for, datagrams, made_for, is_given}
-use Rattle.css_world.specs.Happened.{server_of}
-use Rattle.css_world.specs.Happened.{events_of, history_of}
-use Rattle.css_world.specs.Clocks.{Seen, told_by, last_reading, has_woken, least_next}
-use Rattle.css_world.specs.Verdicts.{IsDeclared, local_of, own_reading, seen_of_tv, seen_of, shown_tested}
-use Rattle.css_world.specs.Verdicts.{reading_tested}
-use Rattle.css_world.specs.Verdicts.{can_happen, event_at, played, carried_out, line_meant}
 use Rattle.css_world.specs.Lanes.{LanesStand, IsLaneOf}
 
 -- What both ends keep: the header, by which they were made; the television and the companions' lanes; and the oldest
@@ -176,20 +177,6 @@ pub record EndsAre (ends : Kept) (lines : List Numbered) : Type 0 where
       → IsLaneOf ends.header who (seen_of who lines) lane
 
 -- ---- the world
--- the line comes after the last one
-abbrev pub IsNext : ℕ → List Numbered → Type 0
-IsNext number [] = Unit {0}
-IsNext number (last ∷ older) = last.number < number
-
--- Each line was accepted after those before it: it is in range, of one of the companions or of the television alone,
--- and printed.
-abbrev pub AreAccepted : Header → List Numbered → Type 0
-AreAccepted header [] = Unit {0}
-AreAccepted header (now ∷ older) =
-    IsLine now.line × IsSecond (length header.companions) now.line × IsNext now.number older
-    × ((printed : List ℕ) × (line_meant header older now ≡ Ok printed))
-    × AreAccepted header older
-
 -- The ends are ready for one more line: what the header declares is in range, the lines before it were accepted, and
 -- the ends are those of the lines.
 pub record IsReady (world : Kept) (lines : List Numbered) : Type 0 where
@@ -217,6 +204,11 @@ Means old before after result now = (lines : List Numbered) → StandsFor old li
 abbrev pub GoesOn : World → World → Result (Unit {0}) WorldFault → Numbered → Type 0
 GoesOn old new result now = (lines : List Numbered) → StandsFor old lines → IsNext now.number lines
     → OnOk result (StandsFor new (now ∷ lines))
+
+-- what is true of accepted lines is true of a line that the world took
+abbrev pub TellsTruth : World → Result (Unit {0}) WorldFault → Numbered → Type 0
+TellsTruth old result now = (lines : List Numbered) → StandsFor old lines → IsNext now.number lines
+    → OnOk result (IsTrueLine old.header lines now)
 
 -- ---- what a call does
 -- whether what a line says can be carried out: it can't happen, or the player refuses it

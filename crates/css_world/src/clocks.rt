@@ -1,12 +1,12 @@
 ghost use Rattle.std.specs.Prelude.{◌≡◌, ◌≤◌, Some, [], length, IfOk, All};
 ghost use Rattle.std.specs.Borrow.{sem};
 ghost use Rattle.css_schedule.specs.Ranges.{IsHeader, IsCompanion, IsLine, IsSecond};
+ghost use Rattle.css_meaning.specs.Numbering.{stored};
 ghost use Rattle.css_world.specs.Lending.{LendsWatch};
-ghost use Rattle.css_world.specs.Numbering.{stored};
 ghost use Rattle.css_world.specs.Standing.{ClocksStand, IsNew, AreNew, AreNext, ShowsBy, ShownTo, ReadsBy, ReadTo};
 
-use crate::fault::WorldFault;
 use crate::watch::Watch;
+use css_meaning::WorldFault;
 use css_num::Memory;
 use css_schedule::{CompanionLine, Header, Line, Verb};
 use css_wc::precision_ns;

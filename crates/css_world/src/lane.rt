@@ -4,13 +4,13 @@ ghost use Rattle.css_schedule.specs.Ranges.{IsCompanion};
 ghost use Rattle.css_num.specs.declared.protocol.Kind.TheVariants as kinds;
 ghost use Rattle.css_tv.specs.declared.event.TvOut.TheVariants as outs;
 ghost use Rattle.css_num.specs.Gives.{Leaves};
+ghost use Rattle.css_meaning.specs.Sessions as sessions;
 ghost use Rattle.css_world.specs.Flights as flights;
 ghost use Rattle.css_world.specs.Lanes as lanes;
-ghost use Rattle.css_world.specs.Sessions as sessions;
 
-use crate::fault::WorldFault;
 use crate::session::{Session, peer_of};
 use css_companion::{Companion, CompanionConfig, CompanionEvent, CompanionFault};
+use css_meaning::WorldFault;
 use css_num::{Memory, Text};
 use css_schedule::CompanionLine;
 use css_sessions::Kind;

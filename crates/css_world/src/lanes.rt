@@ -3,11 +3,11 @@ ghost use Rattle.std.specs.Borrow.{sem};
 ghost use Rattle.css_schedule.specs.Headers.{max_companions};
 ghost use Rattle.css_schedule.specs.Ranges.{IsCompanion};
 ghost use Rattle.css_num.specs.declared.protocol.Kind.TheVariants as kinds;
+ghost use Rattle.css_meaning.specs.Numbering.{stored};
+ghost use Rattle.css_meaning.specs.Sessions as sessions;
 ghost use Rattle.css_world.specs.Flights as flights;
 ghost use Rattle.css_world.specs.Lanes as lanes;
 ghost use Rattle.css_world.specs.Lending.{LendsLane};
-ghost use Rattle.css_world.specs.Numbering.{stored};
-ghost use Rattle.css_world.specs.Sessions as sessions;
 
 use crate::lane::Lane;
 use crate::place::place;

@@ -6,10 +6,8 @@
 
 mod both;
 mod clocks;
-mod fault;
 mod lane;
 mod lanes;
-pub mod laws;
 mod place;
 mod printed;
 mod session;
@@ -18,5 +16,5 @@ mod television;
 mod watch;
 mod world;
 
-pub use fault::WorldFault;
+pub use css_meaning::WorldFault;
 pub use world::World;

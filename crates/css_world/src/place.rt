@@ -1,6 +1,6 @@
 ghost use Rattle.std.specs.Prelude.{◌≡◌, ◌⊎◌, [], ◌∷◌, ◌++◌, Some, None, IfSome, IfNone, OnOk, option_to_list};
 ghost use Rattle.std.specs.Option.{option_copied, option_map};
-ghost use Rattle.css_world.specs.Numbering.{stored, place_of};
+ghost use Rattle.css_meaning.specs.Numbering.{stored, place_of};
 
 use css_num::Memory;
 use css_server::Answered;

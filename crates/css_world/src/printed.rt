@@ -1,7 +1,7 @@
 ghost use Rattle.std.specs.Prelude.{◌≡◌, ◌++◌, length, take, Some, OnOk, OnErr};
 ghost use Rattle.css_companion.specs.Printed.{line_of};
 ghost use Rattle.css_companion.specs.declared.report.Report.TheVariants as reports;
-ghost use Rattle.css_world.specs.Printed.{ends_line, wall_line, wall_text};
+ghost use Rattle.css_meaning.specs.Printed.{ends_line, wall_line, wall_text};
 
 use css_companion::{Report, line as report_line};
 use css_num::{Memory, Span};

@@ -1,10 +1,10 @@
 ghost use Rattle.std.specs.Prelude.{◌≡◌, ◌↔◌, ◌≤◌, ◌<◌, ◌∷◌, [], IsTrue, Some, OnOk};
+ghost use Rattle.css_meaning.specs.Sessions as sessions;
 ghost use Rattle.css_world.specs.declared.session.Phase.TheVariants as phases;
 ghost use Rattle.css_num.specs.Gives.{Leaves};
 ghost use Rattle.css_world.specs.Flights as flights;
-ghost use Rattle.css_world.specs.Sessions as sessions;
 
-use crate::fault::WorldFault;
+use css_meaning::WorldFault;
 use css_num::{Memory, Text};
 use css_sessions::Kind;
 use std::alloc::Global;

@@ -5,11 +5,11 @@ ghost use Rattle.css_tsmsg.specs.Presentations.{IsPresentation};
 ghost use Rattle.css_world.specs.Standing.{Ready, CarriesOut, KeepsRefused};
 
 use crate::both::Ends;
-use crate::fault::WorldFault;
 use crate::lane::{closed, heard};
 use crate::session::peer_of;
 use crate::television::play;
 use css_companion::CompanionEvent;
+use css_meaning::WorldFault;
 use css_sessions::Kind;
 use css_tsmsg::Bound;
 use css_tv::TvEvent;

@@ -5,19 +5,12 @@ ghost use Rattle.std.specs.Result.{result_map_both};
 ghost use Rattle.css_moments.specs.Drifts.{Told, Showed, verdict};
 ghost use Rattle.css_moments.specs.Standing.{StandsFor};
 ghost use Rattle.css_schedule.specs.Owners.{is_sleep};
-ghost use Rattle.css_world.specs.Clocks as clocks;
+ghost use Rattle.css_meaning.specs.Clocks as clocks;
 
-use crate::fault::WorldFault;
+use css_meaning::{Reading, WorldFault};
 use css_model::LIMIT;
 use css_moments::Drift;
 use css_schedule::Verb;
-
-/// A reading of a clock, and the number of the line where it was taken.
-#[derive(Clone, Copy)]
-pub(crate) struct Reading {
-    pub(crate) line: u64,
-    pub(crate) value: u64,
-}
 
 /// The clock of one end, as the lines tell of it.
 #[derive(Drop)]

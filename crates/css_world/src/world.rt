@@ -1,16 +1,18 @@
 ghost use Rattle.std.specs.Prelude.{◌≡◌, List, [], length, IfSome, IfNone, IfOk, IfErr};
 ghost use Rattle.css_schedule.specs.Ranges.{IsHeader, IsLine, IsSecond, IsCount};
-ghost use Rattle.css_world.specs.Happened.{Numbered};
+ghost use Rattle.css_meaning.specs.Happened.{Numbered};
+ghost use Rattle.css_meaning.specs.Truth.{IsCompanionOf};
+ghost use Rattle.css_meaning.specs.Accepted.{IsNext};
 ghost use Rattle.css_world.specs.Asked.{MayBeAsked};
-ghost use Rattle.css_world.specs.Truth.{TellsTruth, IsCompanionOf};
-ghost use Rattle.css_world.specs.Standing.{StandsFor, IsNext, Means, GoesOn, KeepsRefused};
+ghost use Rattle.css_world.specs.Standing.{TellsTruth};
+ghost use Rattle.css_world.specs.Standing.{StandsFor, Means, GoesOn, KeepsRefused};
 
 use crate::both::Ends;
 use crate::clocks::Clocks;
-use crate::fault::WorldFault;
 use crate::lanes::Lanes;
 use crate::television::Television;
 use css_companion::Companion;
+use css_meaning::WorldFault;
 use css_num::Memory;
 use css_schedule::{Header, Line};
 use css_tv::Tv;

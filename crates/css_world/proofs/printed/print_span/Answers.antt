@@ -3,7 +3,7 @@ use Rattle.std.proofs.Common.{◌≡◌, ℕ, ℤ, List, ◌++◌, subst, to_z, 
 use Rattle.std.specs.Prelude.{codes, decimal}
 use Rattle.std.specs.Int.{w128}
 use Rattle.std.proofs.lemmas.Int.{to_z-of_z}
-use Rattle.css_world.specs.Printed.{ends_line, wall_line}
+use Rattle.css_meaning.specs.Printed.{ends_line, wall_line}
 use Rattle.css_world.proofs.Appending.{on_ok}
 use Rattle.css_world.proofs.printed.print_span.Goals as goal
 

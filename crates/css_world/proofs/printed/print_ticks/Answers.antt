@@ -6,7 +6,7 @@ use Rattle.std.specs.Int.{w128}
 use Rattle.std.proofs.lemmas.Int.{to_z-of_z}
 use Rattle.css_companion.specs.Printed.{line_of}
 use Rattle.css_companion.specs.declared.report.Report.TheVariants.{Ticks}
-use Rattle.css_world.specs.Printed.{ends_line}
+use Rattle.css_meaning.specs.Printed.{ends_line}
 use Rattle.css_world.proofs.Appending.{on_ok}
 use Rattle.css_world.proofs.printed.print_ticks.Goals as goal
 

@@ -1,5 +1,5 @@
 use Rattle.std.proofs.Common.{◌+◌, length, refl, rules}
-use Rattle.css_world.specs.Verdicts.{line_meant}
+use Rattle.css_meaning.specs.Verdicts.{line_meant}
 use Rattle.css_replay.specs.Replayed.{reached}
 use Rattle.css_replay.proofs.Texts.{answered, on_carried, whole, reached-push, well}
 use Rattle.css_replay.proofs.reader.ReplayLines.line.Goals as goal

@@ -4,7 +4,7 @@ use Rattle.std.specs.Prelude.{None}
 use Rattle.css_companion.specs.Standing.{Companion}
 use Rattle.css_companion.specs.Steps.{owed, IsEvent}
 use Rattle.css_schedule.specs.declared.line.Verb.TheVariants.{Bring}
-use Rattle.css_world.specs.Happened.{events_of, history_of}
+use Rattle.css_meaning.specs.Happened.{events_of, history_of}
 use Rattle.css_world.specs.Lanes.{session_at, with_owed}
 use Rattle.css_world.specs.Standing.{Kept, kept}
 use Rattle.css_world.proofs.Carrying.{at_line}

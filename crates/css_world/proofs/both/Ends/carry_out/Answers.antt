@@ -9,9 +9,9 @@ use Rattle.css_schedule.specs.declared.line.Verb.TheVariants.{Timeline, Viewer, 
 use Rattle.css_schedule.specs.declared.line.Verb.TheVariants.{Sleep}
 use Rattle.css_schedule.specs.Ranges.{IsVerb}
 use Rattle.css_companion.specs.Printed.{line_of}
-use Rattle.css_world.specs.Happened.{Numbered}
-use Rattle.css_world.specs.Printed.{wall_text}
-use Rattle.css_world.specs.Verdicts.{own_reading, span_at, report_at, assigned_at}
+use Rattle.css_meaning.specs.Happened.{Numbered}
+use Rattle.css_meaning.specs.Printed.{wall_text}
+use Rattle.css_meaning.specs.Verdicts.{own_reading, span_at, report_at, assigned_at}
 use Rattle.css_world.proofs.Carrying.{at_line}
 use Rattle.css_world.proofs.AtTelevision.{walls, prints}
 use Rattle.css_world.specs.Standing.{Kept, kept, MayRead, MayTake, ReadyFor, ReadyAt}

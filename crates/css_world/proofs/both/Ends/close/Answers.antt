@@ -4,11 +4,11 @@ use Rattle.std.specs.Prelude.{Some, None, slice_set, Ok, Result}
 use Rattle.css_tv.specs.declared.event.TvEvent.TheVariants as event
 use Rattle.css_companion.specs.Steps.{owed, IsEvent}
 use Rattle.css_schedule.specs.declared.line.Verb.TheVariants.{Close}
-use Rattle.css_world.specs.declared.fault.WorldFault.{WorldFault}
-use Rattle.css_world.specs.Happened.{events_of, history_of}
+use Rattle.css_meaning.specs.declared.fault.WorldFault.{WorldFault}
+use Rattle.css_meaning.specs.Happened.{events_of, history_of}
+use Rattle.css_meaning.specs.Sessions.{peer_of}
+use Rattle.css_meaning.specs.Verdicts.{played}
 use Rattle.css_world.specs.Lanes.{session_at, with_owed}
-use Rattle.css_world.specs.Sessions.{peer_of}
-use Rattle.css_world.specs.Verdicts.{played}
 use Rattle.css_world.specs.Standing.{Kept, kept}
 use Rattle.css_world.proofs.Carrying.{at_line}
 use Rattle.css_world.proofs.Verbs.{WhenPlayed, WhenAttended, wants, refuses-as, refuses-played}

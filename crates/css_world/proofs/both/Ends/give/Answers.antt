@@ -4,15 +4,15 @@ use Rattle.std.specs.Prelude.{◌&&◌, Some, None, is_some, Result, Ok, Err}
 use Rattle.std.specs.Option.{option_flatten}
 use Rattle.css_tv.specs.Stages.{Television as Tv}
 use Rattle.css_schedule.specs.declared.line.Verb.TheVariants.{Give}
-use Rattle.css_world.specs.declared.fault.WorldFault.{WorldFault}
-use Rattle.css_world.specs.declared.fault.WorldFault.TheVariants.{Absent}
-use Rattle.css_world.specs.Happened.{tickets, is_given}
-use Rattle.css_world.specs.Numbering.{numbered, stored}
+use Rattle.css_meaning.specs.declared.fault.WorldFault.{WorldFault}
+use Rattle.css_meaning.specs.declared.fault.WorldFault.TheVariants.{Absent}
+use Rattle.css_meaning.specs.Happened.{tickets, is_given}
+use Rattle.css_meaning.specs.Numbering.{numbered, stored}
+use Rattle.css_meaning.proofs.Tickets.{takes_count}
 use Rattle.css_world.specs.Standing.{Kept, kept, open_ticket}
 use Rattle.css_world.proofs.Carrying.{at_line}
 use Rattle.css_world.proofs.Answering.{given, answered_is, none_answered, not_open, answer_same}
 use Rattle.css_world.proofs.Numbers.{stored_none, mapped_none}
-use Rattle.css_world.proofs.Tickets.{takes_count}
 use Rattle.css_world.proofs.Verbs.{refuses-absent, wants}
 use Rattle.css_world.proofs.Owning.{are_on, are_played, same_lanes, refused_memory}
 use Rattle.css_world.proofs.both.Ends.give.Goals as goal

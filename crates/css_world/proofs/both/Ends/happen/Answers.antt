@@ -1,6 +1,6 @@
 -- Nothing happens but at the television.
 use Rattle.std.proofs.Common.{refl, ◌∙◌}
-use Rattle.css_world.specs.Happened.{events_of}
+use Rattle.css_meaning.specs.Happened.{events_of}
 use Rattle.css_world.specs.Standing.{Kept, kept}
 use Rattle.css_world.proofs.Carrying.{at_line}
 use Rattle.css_world.proofs.Verbs.{carried-at-tv}

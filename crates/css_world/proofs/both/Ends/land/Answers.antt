@@ -3,16 +3,16 @@ use Rattle.std.proofs.Common.{◌≡◌, ◌⊎◌, sym, ap, subst, refl, ◌∙
 use Rattle.css_companion.specs.Standing as companions
 use Rattle.std.specs.Prelude.{◌&&◌, Some, None, Result, Ok, Err}
 use Rattle.css_schedule.specs.declared.line.Verb.TheVariants.{Land}
-use Rattle.css_world.specs.declared.fault.WorldFault.{WorldFault}
-use Rattle.css_world.specs.declared.fault.WorldFault.TheVariants.{Absent}
-use Rattle.css_world.specs.Happened.{peer, history_of}
-use Rattle.css_world.specs.Numbering.{stored}
+use Rattle.css_meaning.specs.declared.fault.WorldFault.{WorldFault}
+use Rattle.css_meaning.specs.declared.fault.WorldFault.TheVariants.{Absent}
+use Rattle.css_meaning.specs.Happened.{peer, history_of}
+use Rattle.css_meaning.specs.Numbering.{stored}
+use Rattle.css_meaning.specs.Verdicts.{own_reading}
 use Rattle.css_world.specs.Standing.{Kept, kept}
 use Rattle.css_world.proofs.Carrying.{at_line}
 use Rattle.css_world.proofs.Answering.{landed, not_landing, not_for}
 use Rattle.css_world.proofs.Verbs.{refuses-absent, wants}
 use Rattle.css_world.proofs.Owning.{may_ask, read_lane, are_on, are_set, refused_memory}
-use Rattle.css_world.specs.Verdicts.{own_reading}
 use Rattle.css_world.proofs.both.Ends.land.Goals as goal
 
 pub returns-clause-carries : goal.returns-clause-carries

@@ -3,11 +3,11 @@ use Rattle.std.proofs.Common.{◌≡◌, ◌-◌, ℕ, refl, sym, ap, subst, ◌
 use Rattle.std.specs.Prelude.{Some, slice_set, Ok, Result}
 use Rattle.css_tv.specs.declared.event.TvEvent.TheVariants as event
 use Rattle.css_schedule.specs.declared.line.Verb.TheVariants.{Opening}
-use Rattle.css_world.specs.declared.fault.WorldFault.{WorldFault}
-use Rattle.css_world.specs.Happened.{events_of, history_of}
+use Rattle.css_meaning.specs.declared.fault.WorldFault.{WorldFault}
+use Rattle.css_meaning.specs.Happened.{events_of, history_of}
+use Rattle.css_meaning.specs.Sessions.{peer_of}
+use Rattle.css_meaning.specs.Verdicts.{played}
 use Rattle.css_world.specs.Lanes.{session_at}
-use Rattle.css_world.specs.Sessions.{peer_of}
-use Rattle.css_world.specs.Verdicts.{played}
 use Rattle.css_world.specs.Standing.{Kept, kept}
 use Rattle.css_world.proofs.Carrying.{at_line}
 use Rattle.css_world.proofs.Verbs.{WhenPlayed, wants, refuses-as, refuses-played, carried-when, can-open, cannot-open}

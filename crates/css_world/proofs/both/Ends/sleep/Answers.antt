@@ -2,7 +2,7 @@
 use Rattle.std.proofs.Common.{refl, ap}
 use Rattle.css_companion.specs.Standing as companions
 use Rattle.css_schedule.specs.declared.line.Verb.TheVariants.{Sleep}
-use Rattle.css_world.specs.Happened.{history_of}
+use Rattle.css_meaning.specs.Happened.{history_of}
 use Rattle.css_world.specs.Standing.{Kept, kept}
 use Rattle.css_world.proofs.Carrying.{at_line}
 use Rattle.css_world.proofs.AtTelevision.{sleeps}

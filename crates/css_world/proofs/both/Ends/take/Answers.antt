@@ -5,16 +5,16 @@ use Rattle.css_model.specs.Wire.{stamp_of}
 use Rattle.css_server.specs.Tickets.{Ticket, ticket_for}
 use Rattle.css_server.specs.Exchanges as servers
 use Rattle.css_schedule.specs.declared.line.Verb.TheVariants.{Take}
-use Rattle.css_world.specs.declared.fault.WorldFault.{WorldFault}
-use Rattle.css_world.specs.declared.fault.WorldFault.TheVariants.{Absent}
-use Rattle.css_world.specs.Happened.{Numbered, requests, askers, tickets, ticket_at}
-use Rattle.css_world.specs.Numbering.{numbered, stored}
+use Rattle.css_meaning.specs.declared.fault.WorldFault.{WorldFault}
+use Rattle.css_meaning.specs.declared.fault.WorldFault.TheVariants.{Absent}
+use Rattle.css_meaning.specs.Happened.{Numbered, requests, askers, tickets, ticket_at}
+use Rattle.css_meaning.specs.Numbering.{numbered, stored}
+use Rattle.css_meaning.specs.Verdicts.{can_happen}
+use Rattle.css_meaning.proofs.Tickets.{askers_count}
 use Rattle.css_world.specs.Standing.{Kept, kept, EndsStand, request_bytes}
-use Rattle.css_world.specs.Verdicts.{can_happen}
 use Rattle.css_world.proofs.Carrying.{at_line, stored_request, taken, ticket_same}
 use Rattle.css_world.proofs.Answering.{owner_stored}
 use Rattle.css_world.proofs.Numbers.{stored_none, mapped_none}
-use Rattle.css_world.proofs.Tickets.{askers_count}
 use Rattle.css_world.proofs.Verbs.{refuses-absent, wants}
 use Rattle.css_world.proofs.Owning.{are_on, are_told, same_lanes, refused_memory}
 use Rattle.css_world.proofs.both.Ends.take.Goals as goal

@@ -3,13 +3,13 @@ use Rattle.std.proofs.Common.{◌≡◌, ◌-◌, ℕ, refl, sym, ap, subst, ◌
 use Rattle.std.specs.Prelude.{Some, slice_set, Ok, Result}
 use Rattle.css_tv.specs.declared.event.TvEvent.TheVariants as event
 use Rattle.css_schedule.specs.declared.line.Verb.TheVariants.{Up}
-use Rattle.css_world.specs.declared.fault.WorldFault.{WorldFault}
+use Rattle.css_meaning.specs.declared.fault.WorldFault.{WorldFault}
+use Rattle.css_meaning.specs.Happened.{events_of}
+use Rattle.css_meaning.specs.Verdicts.{played}
+use Rattle.css_meaning.proofs.Peers.{ts_of}
 use Rattle.css_world.specs.Flights.{first_in}
-use Rattle.css_world.specs.Happened.{events_of}
-use Rattle.css_world.specs.Verdicts.{played}
 use Rattle.css_world.specs.Standing.{Kept, kept}
 use Rattle.css_world.proofs.Carrying.{at_line}
-use Rattle.css_world.proofs.Peers.{ts_of}
 use Rattle.css_world.proofs.Verbs.{WhenPlayed, refuses-absent, refuses-played, carried-when}
 use Rattle.css_world.proofs.Verbs.{can-raise, cannot-raise, up-event}
 use Rattle.css_world.proofs.AtSessions.{raises}

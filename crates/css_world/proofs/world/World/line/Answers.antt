@@ -4,10 +4,10 @@ use Rattle.std.specs.Prelude.{Err}
 use Rattle.std.specs.Result.{result_and}
 use Rattle.std.proofs.lemmas.Result.{err_from_is_err_and}
 use Rattle.css_schedule.specs.declared.line.Line.{Line}
-use Rattle.css_world.specs.Happened.{Numbered}
+use Rattle.css_meaning.specs.Happened.{Numbered}
+use Rattle.css_meaning.specs.Verdicts.{reading_tested}
 use Rattle.css_world.specs.Standing.{World, Means, GoesOn}
-use Rattle.css_world.specs.Truth.{TellsTruth}
-use Rattle.css_world.specs.Verdicts.{reading_tested}
+use Rattle.css_world.specs.Standing.{TellsTruth}
 use Rattle.css_world.proofs.Going.{Steps, world_as, lines_next, means_fault, not_ok, may_take, stood, is_second}
 use Rattle.css_world.proofs.Going.{line_answers, line_stands, line_true}
 use Rattle.css_world.proofs.world.World.line.Goals as goal

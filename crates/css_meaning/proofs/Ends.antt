@@ -1,0 +1,77 @@
+-- What both ends did at accepted lines, by their last line.
+use Rattle.std.proofs.Common.{◌≡◌, ◌≢◌, ℕ, refl, ap, Bool, true, false, cond, List, ◌∷◌, ◌++◌}
+use Rattle.std.proofs.Common.{ne_eqb}
+use Rattle.std.specs.Prelude.{Result, Ok, Err}
+use Rattle.std.specs.Option.{option_to_list}
+use Rattle.std.specs.Result.{result_and}
+use Rattle.std.proofs.lemmas.Bool.{and_parts, eq-eqb}
+use Rattle.css_model.specs.declared.Message.{Message}
+use Rattle.css_model.specs.History.{History}
+use Rattle.css_tv.specs.declared.event.TvEvent.{TvEvent}
+use Rattle.css_schedule.specs.declared.header.Header.{Header}
+use Rattle.css_schedule.specs.declared.line.Verb.{Verb}
+use Rattle.css_schedule.specs.Ranges.{IsVerb}
+use Rattle.css_meaning.specs.declared.fault.WorldFault.TheVariants.{Absent}
+use Rattle.css_meaning.specs.Happened.{Numbered, datagrams, event_by, done_by, events_of, history_of}
+use Rattle.css_meaning.specs.Verdicts.{tested, can_exchange, can_talk, can_happen}
+use Rattle.css_meaning.specs.Verdicts.{carried_out}
+use Rattle.css_meaning.specs.Accepted.{AreAccepted}
+
+-- ---- one line more
+-- the television's events after a verb of companion `who`
+abbrev pub events_with : ℕ → List TvEvent → History → Verb → List TvEvent
+events_with who events own verb = option_to_list (event_by who events own verb) ++ events
+
+-- so they are after a line
+pub events_now : (header : Header) (now : Numbered) (older : List Numbered) (who : ℕ) → now.line.who ≡ who
+    → events_of header (now ∷ older)
+    ≡ events_with who (events_of header older) (history_of who header older) now.line.verb
+events_now header now older who is =
+    let events = events_of header older in
+    ap (λ who. option_to_list (event_by who events (history_of who header older) now.line.verb) ++ events) is
+
+-- the history of a companion after a line of its own
+pub history_now : (header : Header) (now : Numbered) (older : List Numbered) (who : ℕ) → now.line.who ≡ who
+    → history_of who header (now ∷ older)
+    ≡ done_by header who (datagrams header older) (events_of header older) now.line.verb (history_of who header older)
+history_now header now older who is =
+    let own = history_of who header older in
+    let done = done_by header who (datagrams header older) (events_of header older) now.line.verb own in
+    ap (λ b. cond b done own) (eq-eqb now.line.who who is)
+
+-- and after one of another companion
+pub history_other : (header : Header) (now : Numbered) (older : List Numbered) (who : ℕ) → now.line.who ≢ who
+    → history_of who header (now ∷ older) ≡ history_of who header older
+history_other header now older who other =
+    let own = history_of who header older in
+    let done = done_by header who (datagrams header older) (events_of header older) now.line.verb own in
+    ap (λ b. cond b done own) (ne_eqb now.line.who who other)
+
+-- ---- what is accepted
+-- where both are Ok, so is the second
+second_ok : {A B E : Type 0} (r : Result A E) (s : Result B E) (y : B) → result_and r s ≡ Ok y → s ≡ Ok y
+second_ok (Ok x) s y e = e
+second_ok (Err f) s y e = absurd (cc)
+
+-- what ends in Ok took the first branch
+then_ok : {A E : Type 0} (b : Bool) (r : Result A E) (f : E) (y : A) → cond b r (Err f) ≡ Ok y → b ≡ true
+then_ok true r f y e = refl
+then_ok false r f y e = absurd (cc)
+
+-- what an accepted line says can happen between the ends
+pub can_talk_now : (header : Header) (now : Numbered) (older : List Numbered) → AreAccepted header (now ∷ older)
+    → can_talk now.line.who (events_of header older) (history_of now.line.who header older) now.line.verb ≡ true
+can_talk_now header now older accepted =
+    let carried = second_ok (tested header older now) (carried_out header older now) accepted.3.0 accepted.3.1 in
+    let who = now.line.who in
+    let can : can_happen header older who now.line.verb ≡ true =
+    then_ok (can_happen header older who now.line.verb) _ Absent accepted.3.0 carried in
+    (and_parts (can_exchange header older who now.line.verb)
+    (can_talk who (events_of header older) (history_of who header older) now.line.verb) can).1
+
+-- ---- all lines
+-- what each verb of companion `who` keeps that can happen
+abbrev pub IsKeptByVerbs : Header → ℕ → (List TvEvent → History → Type 0) → Type 0
+IsKeptByVerbs header who P = (made : List Message) (verb : Verb) (events : List TvEvent) (own : History)
+    → IsVerb verb → can_talk who events own verb ≡ true → P events own
+    → P (events_with who events own verb) (done_by header who made events verb own)

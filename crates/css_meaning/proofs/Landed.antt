@@ -1,0 +1,296 @@
+-- What lands at accepted lines is truthful.
+use Rattle.std.proofs.Common.{◌≡◌, ℕ, suc, ◌^◌, ◌<◌, ◌≤◌, ◌/◌, ◌%◌, arith, ap, sym, subst, ◌∙◌, refl}
+use Rattle.std.proofs.Common.{Bool, true, false, cond, ◌==◌, List, [], ◌∷◌, ◌++◌, length, inl, inr}
+use Rattle.std.specs.Prelude.{Option, Some, None, IfSome, Result, Ok, ◌&&◌, pos, int_lt, nat_lt, ◌≢◌}
+use Rattle.std.specs.Option.{option_map, option_and_then}
+use Rattle.std.specs.Result.{result_ok}
+use Rattle.std.proofs.lemmas.Bool.{le-ltb, lt-ltb, eqb-true}
+use Rattle.std.proofs.lemmas.Bool.Decides.{eqb_tells}
+use Rattle.css_model.specs.declared.TheConstants.{LIMIT}
+use Rattle.css_model.specs.declared.Message.{Message}
+use Rattle.css_model.specs.declared.WcFault.{WcFault}
+use Rattle.css_model.specs.declared.WcFault.TheVariants as wc
+use Rattle.css_model.specs.declared.Why.TheVariants as why
+use Rattle.css_model.specs.Numbers.{IsWithin, precision_ns, max_error}
+use Rattle.css_model.specs.World.{World}
+use Rattle.css_model.specs.Wire.{encoded, decoded, stamp_of, second}
+use Rattle.css_model.specs.History.{Entry, History, Clock, Took, Dialled, Heard, Wrote, Closed}
+use Rattle.css_model.specs.History.{Each, LandedAnswer, landed_answer, answer_in, is_asked}
+use Rattle.css_model.proofs.Lately.{IsIn}
+use Rattle.css_model.proofs.Narrowest.{is_not_less}
+use Rattle.css_wc.proofs.Codec.{IsStamp, decoded-encoded}
+use Rattle.css_server.specs.Tickets.{Ticket, answer_message}
+use Rattle.css_schedule.specs.declared.header.Header.{Header}
+use Rattle.css_schedule.specs.declared.line.Verb.{Verb}
+use Rattle.css_schedule.specs.declared.line.Verb.TheVariants.{Ask, Land, Wall, Print, Opening, Bring, Present, Close}
+use Rattle.css_schedule.specs.declared.line.Verb.TheVariants.{Sleep}
+use Rattle.css_meaning.specs.Happened.{Numbered, server_of, datagrams, made_for, bytes_of, events_of, history_of, peer}
+use Rattle.css_meaning.specs.Numbering.{numbered}
+use Rattle.css_meaning.specs.Verdicts.{is_for, can_exchange}
+use Rattle.css_meaning.specs.Accepted.{AreAccepted}
+use Rattle.css_meaning.specs.Verdicts.{IsDeclared}
+use Rattle.css_meaning.proofs.Worlds.{carried_ok}
+use Rattle.css_meaning.proofs.Lawful.{done_at, IsTalk, each_talk}
+use Rattle.css_meaning.proofs.Ends.{history_now, history_other}
+use Rattle.css_meaning.proofs.Tickets.{AreHere}
+use Rattle.css_meaning.proofs.Moments.{Agrees, entries-here}
+use Rattle.css_meaning.proofs.Made.{Made, made, Tells, Plain, Promise, FollowUp, IsMade}
+use Rattle.css_meaning.proofs.Made.{made_each, numbered-made, can-happen, can-exchange}
+
+-- ---- datagrams are read back
+is_stamp : (r : ℕ) → r < LIMIT → IsStamp (stamp_of r)
+is_stamp r range =
+    let seconds : r / 1000000000 < 2 ^ 32 = omega (arith, range) in
+    let nanoseconds : r % 1000000000 < 2 ^ 32 = omega arith in
+    record { seconds = seconds; nanoseconds = nanoseconds }
+
+-- an answer that passes every test has no fault
+sound : (a b c d e : Bool) → a ≡ false → b ≡ false → c ≡ false → d ≡ true → e ≡ true
+    → cond a None (cond b (Some wc.Precision) (cond c (Some wc.Error) (cond (d && e) None (Some wc.Nanoseconds))))
+    ≡ None
+sound a b c d e p q r s t = rw (p, q, r, s, t) refl
+
+-- an answer to a ticket is read back from its bytes
+answer_back : (header : Header) (ticket : Ticket) (message_type transmit asked : ℕ) → IsDeclared header
+    → ticket.originate ≡ stamp_of asked → asked < LIMIT
+    → ticket.reading < LIMIT → transmit < LIMIT → message_type ≤ 3 → (message_type == 0) ≡ false
+    → decoded (encoded (answer_message (server_of header) ticket message_type transmit))
+    ≡ Ok (answer_message (server_of header) ticket message_type transmit)
+answer_back header ticket message_type transmit asked declared originate asked_range range transmit_range known answer =
+    decoded-encoded (answer_message (server_of header) ticket message_type transmit) (record {
+      message_type = known;
+      precision = declared.exponent;
+      error = omega (arith, declared.tv.tv_error);
+      originate = subst IsStamp (sym originate) (is_stamp asked asked_range);
+      receive = is_stamp ticket.reading range;
+      transmit = is_stamp transmit transmit_range;
+    })
+    (sound (message_type == 0) (int_lt (pos 30) header.tv_precision) (nat_lt max_error header.tv_error)
+    (nat_lt (stamp_of ticket.reading).nanoseconds second) (nat_lt (stamp_of transmit).nanoseconds second)
+    answer (is_not_less (pos 30) header.tv_precision declared.tv.tv_precision)
+    (le-ltb max_error header.tv_error declared.tv.tv_error)
+    (lt-ltb (stamp_of ticket.reading).nanoseconds second (omega arith))
+    (lt-ltb (stamp_of transmit).nanoseconds second (omega arith)))
+
+-- what a made datagram is, once more, with its type and its transmit value
+pub record IsAnswer (world : World) (header : Header) (d : Made) (received_at : ℕ) : Type 0 where
+  pub message_type : ℕ
+  pub transmit : ℕ
+  pub transmit_at : ℕ
+  pub is : d.message ≡ answer_message (server_of header) d.ticket message_type transmit
+  pub known : message_type ≤ 3
+  pub answer : (message_type == 0) ≡ false
+  pub range : transmit < LIMIT
+  pub from : received_at ≤ transmit_at
+  pub to : transmit_at ≤ d.given_at
+  pub near : IsWithin (precision_ns header.tv_precision) transmit (world transmit_at).wall
+  pub at_once : message_type ≢ 2 → transmit_at ≡ d.given_at
+  pub promised : (message_type ≡ 2 → d.ticket.follow_up ≡ true) × (message_type ≡ 3 → d.ticket.follow_up ≡ true)
+
+-- a datagram that was made is an answer in the world
+pub is_answer : (world : World) (moment_of : ℕ → ℕ) (header : Header) (who : ℕ) (lines : List Numbered)
+    (d : Made) (is : IsMade world moment_of header who lines d)
+    → IsAnswer world header d is.taken.received_at
+is_answer world moment_of header who lines d is = by is.tells
+  where
+    by : Tells header d → IsAnswer world header d is.taken.received_at
+    by (Plain e) = record {
+      message_type = 1;
+      transmit = d.reading;
+      transmit_at = d.given_at;
+      is = e;
+      known = omega arith;
+      answer = refl;
+      range = is.range;
+      from = is.later;
+      to = omega arith;
+      near = is.near;
+      at_once = λ other. refl;
+      promised = (λ two. absurd (omega (arith, two)), λ three. absurd (omega (arith, three)));
+    }
+    by (Promise f e) = record {
+      message_type = 2;
+      transmit = d.ticket.reading;
+      transmit_at = is.taken.received_at;
+      is = e;
+      known = omega arith;
+      answer = refl;
+      range = is.taken.range;
+      from = omega arith;
+      to = is.later;
+      near = is.taken.near;
+      at_once = λ other. absurd (other refl);
+      promised = (λ two. f, λ three. f);
+    }
+    by (FollowUp f e) = record {
+      message_type = 3;
+      transmit = d.reading;
+      transmit_at = d.given_at;
+      is = e;
+      known = omega arith;
+      answer = refl;
+      range = is.range;
+      from = is.later;
+      to = omega arith;
+      near = is.near;
+      at_once = λ other. refl;
+      promised = (λ two. f, λ three. f);
+    }
+
+-- a made datagram is read back from its bytes
+pub message_back : (world : World) (moment_of : ℕ → ℕ) (header : Header) (who : ℕ) (lines : List Numbered) (d : Made)
+    → IsDeclared header → IsMade world moment_of header who lines d
+    → decoded (encoded d.message) ≡ Ok d.message
+message_back world moment_of header who lines d declared is =
+    let answer = is_answer world moment_of header who lines d is in
+    subst (λ (m : Message). decoded (encoded m) ≡ Ok m) (sym answer.is)
+    (answer_back header d.ticket answer.message_type answer.transmit is.taken.asked declared is.taken.originate
+    is.taken.asked_range is.taken.range answer.range answer.known answer.answer)
+
+-- and it is an answer
+pub answer-in : (world : World) (moment_of : ℕ → ℕ) (header : Header) (who : ℕ) (lines : List Numbered) (d : Made)
+    → IsDeclared header → IsMade world moment_of header who lines d
+    → answer_in (encoded d.message) ≡ Some d.message
+answer-in world moment_of header who lines d declared is =
+    let answer = is_answer world moment_of header who lines d is in
+    let not_request : (d.message.message_type == 0) ≡ false =
+    ap (λ (m : Message). m.message_type == 0) answer.is ∙ answer.answer in
+    ap (λ (came : Result Message WcFault). option_and_then (λ (message : Message). cond (message.message_type == 0)
+    None (Some message)) (result_ok came)) (message_back world moment_of header who lines d declared is)
+    ∙ ap (λ b. cond b None (Some d.message)) not_request
+
+-- ---- what lands
+-- the datagram that lands at an accepted line of companion `who` was made for it
+pub record Lands (header : Header) (older : List Numbered) (who datagram : ℕ) : Type 0 where
+  pub d : Made
+  pub is_made : IsIn d (made header older)
+  pub owned : d.owner ≡ who
+  pub bytes : bytes_of (numbered datagram (datagrams header older)) ≡ encoded d.message
+
+-- what is for a companion has its number
+is-for : (who : ℕ) (o : Option ℕ) → is_for who o ≡ true → o ≡ Some who
+is-for who None is = absurd (cc)
+is-for who (Some owner) is = ap Some (eqb-true owner who is)
+
+-- what lands is a datagram that was made
+pub lands : (header : Header) (older : List Numbered) (who datagram : ℕ)
+    → is_for who (numbered datagram (made_for header older)) ≡ true → Lands header older who datagram
+lands header older who datagram can =
+    let found = numbered-made header datagram older who (is-for who (numbered datagram (made_for header older)) can) in
+    record { d = found.d; is_made = found.is_made; owned = found.owned; bytes = ap bytes_of found.message }
+
+-- the answer that lands with such a datagram, if its request is still asked
+abbrev pub landing_if : Bool → Message → ℕ → Option LandedAnswer
+landing_if asked message reading =
+    option_map (λ m. record { message = m; reading = reading }) (cond asked (Some message) None)
+
+-- the landing of its bytes is that of its message
+pub landing-is : (message : Message) (bytes : List ℕ) (reading : ℕ) (older : History) → answer_in bytes ≡ Some message
+    → landed_answer (Clock why.Land reading) (Took peer bytes ∷ older)
+    ≡ landing_if (is_asked message.originate (Took peer bytes ∷ older)) message reading
+landing-is message bytes reading older e =
+    ap (λ (o : Option Message). option_map (λ m. record { message = m; reading = reading })
+    (option_and_then (λ (m : Message). cond (is_asked m.originate (Took peer bytes ∷ older)) (Some m) None) o)) e
+
+-- a landed answer is one of the datagrams made, and it was given before it landed
+abbrev pub CameFrom : Header → ℕ → List Numbered → (ℕ → ℕ) → LandedAnswer → History → Type 0
+CameFrom header who lines moment_of response before =
+    (d : Made) × IsIn d (made header lines) × (d.message ≡ response.message) × (d.given_at ≤ moment_of (length before))
+    × (d.owner ≡ who)
+
+-- an answer that lands at this entry came from a line
+abbrev pub CameAt : Header → ℕ → List Numbered → (ℕ → ℕ) → Entry → History → Type 0
+CameAt header who lines moment_of entry before =
+    IfSome (landed_answer entry before) (λ response. CameFrom header who lines moment_of response before)
+
+-- what follows from a fact of each entry holds of each
+pub each-map : (P Q : Entry → History → Type 0) (history : History)
+    → ((entry : Entry) (older : History) → P entry older → Q entry older) → Each P history → Each Q history
+each-map P Q [] f each = tt
+each-map P Q (entry ∷ older) f each = (f entry older each.0, each-map P Q older f each.1)
+
+-- what is in a list is in a longer one
+in-after : {A : Type 0} (xs ys : List A) (a : A) → IsIn a ys → IsIn a (xs ++ ys)
+in-after [] ys a h = h
+in-after (x ∷ xs) ys a h = inr (in-after xs ys a h)
+
+-- where a landed answer came from stays known
+came-longer : (header : Header) (who : ℕ) (now : Numbered) (older : List Numbered) (moment_of : ℕ → ℕ)
+    (entry : Entry) (before : History)
+    → CameAt header who older moment_of entry before → CameAt header who (now ∷ older) moment_of entry before
+came-longer header who now older moment_of entry before came = by (landed_answer entry before) came
+  where
+    by : (o : Option LandedAnswer) → IfSome o (λ response. CameFrom header who older moment_of response before)
+        → IfSome o (λ response. CameFrom header who (now ∷ older) moment_of response before)
+    by None h = tt
+    by (Some response) h = (h.0, in-after _ (made header older) h.0 h.1, h.2, h.3, h.4)
+
+-- nothing lands with an entry of a session
+came_talk : (header : Header) (who : ℕ) (lines : List Numbered) (moment_of : ℕ → ℕ) (entry : Entry) (before : History)
+    → IsTalk entry → CameAt header who lines moment_of entry before
+came_talk header who lines moment_of (Dialled kind other) before talk = tt
+came_talk header who lines moment_of (Heard other bytes) before talk = tt
+came_talk header who lines moment_of (Wrote other bytes) before talk = tt
+came_talk header who lines moment_of (Closed other) before talk = tt
+came_talk header who lines moment_of _ before talk = absurd talk
+
+module _ (world : World) (moment_of : ℕ → ℕ) (header : Header) (who : ℕ) (first : 1 ≤ who)
+    (declared : IsDeclared header) where
+  -- so it is of the entries of one verb
+  came_by : (now : Numbered) (older : List Numbered) (verb : Verb)
+      → AreAccepted header older → Agrees world moment_of header who older → can_exchange header older who verb ≡ true
+      → AreHere moment_of header who older verb
+      → Each (CameAt header who (now ∷ older) moment_of) (history_of who header older)
+      → Each (CameAt header who (now ∷ older) moment_of) (done_at header older who verb)
+  came_by now older (Land datagram reading) accepted agreed can here each =
+      let h : History = history_of who header older in
+      let l = lands header older who datagram can in
+      let is = made_each world moment_of header who older l.d first accepted agreed l.owned l.is_made in
+      let bytes : List ℕ = bytes_of (numbered datagram (datagrams header older)) in
+      let at : moment_of (suc (length h)) ≡ length older = here (suc (length h)) (omega arith) (omega arith) in
+      let answer : answer_in bytes ≡ Some l.d.message =
+      ap answer_in l.bytes ∙ answer-in world moment_of header who older l.d declared is in
+      let came : CameFrom header who (now ∷ older) moment_of
+      (record { message = l.d.message; reading = reading }) (Took peer bytes ∷ h) =
+      (l.d, in-after _ (made header older) l.d l.is_made, refl, omega (arith, is.before, at), l.owned) in (
+        subst (λ (o : Option LandedAnswer). IfSome o
+            (λ response. CameFrom header who (now ∷ older) moment_of response (Took peer bytes ∷ h)))
+            (sym (landing-is l.d.message bytes reading h answer))
+            (elim (is_asked l.d.message.originate (Took peer bytes ∷ h)) as (λ b. IfSome (landing_if b l.d.message
+            reading) (λ response. CameFrom header who (now ∷ older) moment_of response (Took peer bytes ∷ h)))
+            [ true ↦ came | false ↦ tt ]),
+        (tt, each),
+      )
+  came_by now older (Ask reading) accepted agreed can here each = (tt, (tt, each))
+  came_by now older (Wall reading) accepted agreed can here each = (tt, each)
+  came_by now older (Print reading) accepted agreed can here each = (tt, each)
+  came_by now older (Opening kind) accepted agreed can here each =
+      each_talk _ header who (datagrams header older) (events_of header older) (Opening kind)
+      (history_of who header older) tt (came_talk header who (now ∷ older) moment_of) each
+  came_by now older (Bring kind) accepted agreed can here each =
+      each_talk _ header who (datagrams header older) (events_of header older) (Bring kind)
+      (history_of who header older) tt (came_talk header who (now ∷ older) moment_of) each
+  came_by now older (Present earliest latest) accepted agreed can here each = (tt, each)
+  came_by now older (Close kind) accepted agreed can here each = (tt, each)
+  came_by now older Sleep accepted agreed can here each = (tt, each)
+  came_by now older _ accepted agreed can here each = each
+
+  -- each answer that landed at companion `who` by accepted lines is one of the datagrams made for it
+  pub came_each : (lines : List Numbered) → AreAccepted header lines → Agrees world moment_of header who lines
+      → Each (CameAt header who lines moment_of) (history_of who header lines)
+  came_each [] accepted agreed = tt
+  came_each (now ∷ older) accepted agreed =
+      let before = each-map (CameAt header who older moment_of) (CameAt header who (now ∷ older) moment_of)
+      (history_of who header older) (came-longer header who now older moment_of) (came_each older accepted.4 agreed.2)
+      in
+      let can = can-exchange header older now.line.who now.line.verb
+      (can-happen header older now accepted.3.0 (carried_ok header older now accepted.3.0 accepted.3.1)) in
+      let CameNow : History → Type 0 = λ h. Each (CameAt header who (now ∷ older) moment_of) h in
+      elim (eqb_tells now.line.who who) [
+        | inl own ↦
+            subst CameNow (sym (history_now header now older who own.1))
+            (came_by now older now.line.verb accepted.4 agreed.2
+            (subst (λ n. can_exchange header older n now.line.verb ≡ true) own.1 can)
+            (entries-here moment_of header who now older own.1 agreed.1) before)
+        | inr other ↦ subst CameNow (sym (history_other header now older who other.1)) before
+      ]

@@ -1,0 +1,243 @@
+-- What happens at the television comes of its own companion, at each line: both ends go on from line to line.
+use Rattle.std.proofs.Common.{◌≡◌, ◌≢◌, ℕ, ◌*◌, ◌≤◌, refl, sym, subst, arith, true, false}
+use Rattle.std.proofs.Common.{inl, inr, ne_eqb}
+use Rattle.std.proofs.lemmas.Bool.Decides.{eqb_tells}
+use Rattle.css_model.specs.declared.Message.{Message}
+use Rattle.css_num.specs.declared.protocol.Kind.TheVariants as kind
+use Rattle.css_schedule.specs.Owners.{is_own}
+use Rattle.std.proofs.Common.{List, [], ◌∷◌, ◌++◌, length}
+use Rattle.std.specs.Prelude.{Option, Some, None, IfSome, ◌==◌}
+use Rattle.std.specs.Option.{option_to_list, option_map}
+use Rattle.css_model.specs.History.{History}
+use Rattle.css_num.specs.declared.protocol.Kind.{Kind}
+use Rattle.css_sessions.specs.Kept.{talk_of}
+use Rattle.css_sessions.specs.Told.{life_of}
+use Rattle.css_sessions.specs.Told.{sessions_of}
+use Rattle.css_tv.specs.Standing.{calls_of}
+use Rattle.css_tv.specs.declared.event.TvEvent.{TvEvent}
+use Rattle.css_tv.specs.declared.event.TvEvent.TheVariants as event
+use Rattle.css_schedule.specs.declared.header.Header.{Header}
+use Rattle.css_schedule.specs.declared.line.Verb.{Verb}
+use Rattle.css_schedule.specs.declared.line.Verb.TheVariants as verb
+use Rattle.css_schedule.specs.Ranges.{IsVerb}
+use Rattle.css_meaning.specs.Sessions.{addresses, peer_of, was_opened, next_up}
+use Rattle.css_meaning.specs.Happened.{Numbered, datagrams, event_by, done_by, events_of, history_of}
+use Rattle.css_meaning.specs.Verdicts.{can_talk}
+use Rattle.css_meaning.specs.Accepted.{AreAccepted}
+use Rattle.css_meaning.proofs.Ends.{events_with, events_now, history_now, history_other, can_talk_now}
+use Rattle.css_meaning.proofs.Opening.{IsUnknown, IsNeverOpened, opens_none, stays_unknown, unknown_event}
+use Rattle.css_meaning.proofs.Entries.{concerns}
+use Rattle.css_meaning.proofs.Peers.{others-peer, peers-few}
+use Rattle.css_meaning.proofs.Staging.{IsSound, staged_start, addresses_wc, addresses_ts, IsStaging, AreBelow, AreStaging}
+use Rattle.css_meaning.proofs.Staging.{staging_of_one, sound_by, staged_by}
+
+-- ---- events of others
+-- whatever text comes, its event is of its own peer
+text_apart : (peer other : ℕ) (text : Option (List ℕ)) → (other == peer) ≡ false
+    → IfSome (option_map (event.Heard other) text) (λ e. concerns peer e ≡ false)
+text_apart peer other None differs = tt
+text_apart peer other (Some bytes) differs = differs
+
+-- the event of a verb, if there is one, is of no other peer than its companion's
+pub apart_by : (peer who : ℕ) (v : Verb) (events : List TvEvent) (own : History)
+    → (is_own v ≡ true → (k : Kind) → (peer_of who k == peer) ≡ false)
+    → IfSome (event_by who events own v) (λ e. concerns peer e ≡ false)
+apart_by peer who (verb.Ask reading) events own differs = tt
+apart_by peer who (verb.Take request reading) events own differs = tt
+apart_by peer who (verb.Give take reading) events own differs = tt
+apart_by peer who (verb.Land datagram reading) events own differs = tt
+apart_by peer who (verb.Wall reading) events own differs = tt
+apart_by peer who (verb.Print reading) events own differs = tt
+apart_by peer who (verb.Programme content_id) events own differs = refl
+apart_by peer who (verb.Timeline n selector rate base) events own differs = refl
+apart_by peer who (verb.Viewer reading command) events own differs = refl
+apart_by peer who (verb.Opening k) events own differs = differs refl k
+apart_by peer who (verb.Bring k) events own differs = tt
+apart_by peer who verb.Up events own differs =
+    text_apart peer (peer_of who kind.Ts) (next_up who events own) (differs refl kind.Ts)
+apart_by peer who (verb.Present earliest latest) events own differs = tt
+apart_by peer who (verb.Close k) events own differs = differs refl k
+apart_by peer who verb.Sleep events own differs = tt
+
+-- so it keeps a peer unknown
+unknown_by : (peer : ℕ) (o : Option TvEvent) (events : List TvEvent) → IfSome o (λ e. concerns peer e ≡ false)
+    → IsUnknown peer (calls_of addresses events).sessions
+    → IsUnknown peer (calls_of addresses (option_to_list o ++ events)).sessions
+unknown_by peer None events other is = is
+unknown_by peer (Some e) events other is = unknown_event peer addresses e events (opens_none peer e other) is
+
+-- ---- all lines
+-- before all lines
+staging_start : (count : ℕ) → AreStaging count [] (λ who. [])
+staging_start count = record {
+  staged = staged_start addresses addresses_wc addresses_ts;
+  unknown = λ who first k never. record { life = refl; talk = refl };
+  below = λ peer above. record { life = refl; talk = refl };
+}
+
+-- so it is of one companion
+pub one_staged : (who : ℕ) → IsStaging who [] []
+one_staged who = record {
+  staged = staged_start addresses addresses_wc addresses_ts;
+  unknown = λ k never. record { life = refl; talk = refl };
+}
+
+-- what a line of a companion says of its number
+own_number : (header : Header) (now : Numbered) (older : List Numbered) → AreAccepted header (now ∷ older)
+    → is_own now.line.verb ≡ true → 1 ≤ now.line.who
+own_number header now older accepted own = accepted.1.own own
+
+-- the event of an accepted line is sound
+pub sound_now : (header : Header) (now : Numbered) (older : List Numbered) → AreAccepted header (now ∷ older)
+    → AreStaging (length header.companions) (events_of header older) (λ who. history_of who header older)
+    → IfSome (event_by now.line.who (events_of header older) (history_of now.line.who header older) now.line.verb)
+    (λ e. IsSound e (calls_of addresses (events_of header older)).sessions)
+sound_now header now older accepted before =
+    sound_by now.line.who now.line.verb (events_of header older) (history_of now.line.who header older)
+    accepted.0.verb (can_talk_now header now older accepted)
+    (λ own. before.unknown now.line.who (own_number header now older accepted own))
+
+-- it is of no other companion
+apart_now : (header : Header) (now : Numbered) (older : List Numbered) (who : ℕ) (k : Kind)
+    → AreAccepted header (now ∷ older) → 1 ≤ who → now.line.who ≢ who
+    → IfSome (event_by now.line.who (events_of header older) (history_of now.line.who header older) now.line.verb)
+    (λ e. concerns (peer_of who k) e ≡ false)
+apart_now header now older who k accepted first differs =
+    apart_by (peer_of who k) now.line.who now.line.verb (events_of header older)
+    (history_of now.line.who header older)
+    (λ own j. others-peer who now.line.who j k first (own_number header now older accepted own) differs)
+
+-- a peer above those of all companions stays unknown
+below_now : (header : Header) (now : Numbered) (older : List Numbered) → AreAccepted header (now ∷ older)
+    → AreBelow (2 * length header.companions) (events_of header older)
+    → AreBelow (2 * length header.companions) (events_of header (now ∷ older))
+below_now header now older accepted below peer above =
+    let who = now.line.who in
+    let events = events_of header older in
+    let own = history_of who header older in
+    unknown_by peer (event_by who events own now.line.verb) events
+    (apart_by peer who now.line.verb events own (λ is k.
+    let low = peers-few who (length header.companions) k (own_number header now older accepted is) accepted.1.who in
+    ne_eqb (peer_of who k) peer (λ same. absurd (omega (arith, same, low, above))))) (below peer above)
+
+-- what a companion never opened stays unknown
+unknown_now : (header : Header) (now : Numbered) (older : List Numbered) (who : ℕ) (k : Kind)
+    → AreAccepted header (now ∷ older) → 1 ≤ who
+    → IsNeverOpened who k (events_of header older) (history_of who header older)
+    → IsNeverOpened who k (events_of header (now ∷ older)) (history_of who header (now ∷ older))
+unknown_now header now older who k accepted first before = elim (eqb_tells now.line.who who) [
+  | inl same ↦
+      let events = events_of header older in
+      let own = history_of who header older in
+      let made = datagrams header older in
+      let v = now.line.verb in
+      let can : can_talk who events own v ≡ true =
+      subst (λ n. can_talk n events (history_of n header older) v ≡ true) same.1
+      (can_talk_now header now older accepted) in
+      let next = stays_unknown header who k first made v events own accepted.0.verb can before in
+      subst (λ (h : History). IsNeverOpened who k (events_of header (now ∷ older)) h)
+      (sym (history_now header now older who same.1))
+      (subst (λ (es : List TvEvent). IsNeverOpened who k es (done_by header who made events v own))
+      (sym (events_now header now older who same.1)) next)
+  | inr differs ↦
+      subst (λ (h : History). IsNeverOpened who k (events_of header (now ∷ older)) h)
+      (sym (history_other header now older who differs.1))
+      (λ never. unknown_by (peer_of who k)
+      (event_by now.line.who (events_of header older) (history_of now.line.who header older) now.line.verb)
+      (events_of header older) (apart_now header now older who k accepted first differs.1) (before never))
+]
+
+-- after accepted lines the television is staged
+pub staging : (header : Header) (lines : List Numbered) → AreAccepted header lines
+    → AreStaging (length header.companions) (events_of header lines) (λ who. history_of who header lines)
+staging header [] accepted = staging_start (length header.companions)
+staging header (now ∷ older) accepted =
+    let before = staging header older accepted.4 in
+    let who = now.line.who in
+    let event = event_by who (events_of header older) (history_of who header older) now.line.verb in
+    record {
+      staged = staged_by event (events_of header older) before.staged (sound_now header now older accepted before);
+      unknown = λ who first k. unknown_now header now older who k accepted first (before.unknown who first k);
+      below = below_now header now older accepted before.below;
+    }
+
+-- a session that its companion never opened has no life
+pub never_opened : (header : Header) (lines : List Numbered) (who : ℕ) (k : Kind) → 1 ≤ who → AreAccepted header lines
+    → was_opened (peer_of who k) (history_of who header lines) ≡ false
+    → life_of (peer_of who k) (calls_of addresses (events_of header lines)).sessions ≡ None
+never_opened header lines who k first accepted never =
+    ((staging header lines accepted).unknown who first k never).life
+
+-- and no talk
+pub no_talk : (header : Header) (lines : List Numbered) (who : ℕ) (k : Kind) → 1 ≤ who → AreAccepted header lines
+    → was_opened (peer_of who k) (history_of who header lines) ≡ false
+    → talk_of (peer_of who k) (sessions_of (calls_of addresses (events_of header lines)).sessions).list ≡ None
+no_talk header lines who k first accepted never = ((staging header lines accepted).unknown who first k never).talk
+
+-- ---- what holds of both ends
+-- what each verb of companion `who` keeps that can happen, where the television is staged before it and after it
+abbrev pub IsKeptBy : Header → ℕ → (List TvEvent → History → Type 0) → Type 0
+IsKeptBy header who P = (made : List Message) (v : Verb) (events : List TvEvent) (own : History)
+    → IsVerb v → can_talk who events own v ≡ true → AreBelow (2 * length header.companions) events
+    → IsStaging who events own → IsStaging who (events_with who events own v) (done_by header who made events v own)
+    → P events own → P (events_with who events own v) (done_by header who made events v own)
+
+-- what each event that isn't of companion `who` keeps
+abbrev pub IsKeptApart : ℕ → (List TvEvent → History → Type 0) → Type 0
+IsKeptApart who P = (e : TvEvent) (events : List TvEvent) (own : History)
+    → ((k : Kind) → concerns (peer_of who k) e ≡ false) → IsSound e (calls_of addresses events).sessions
+    → IsStaging who events own → IsStaging who (e ∷ events) own → P events own → P (e ∷ events) own
+
+-- so it is kept where there may be an event
+apart_kept : (who : ℕ) (P : List TvEvent → History → Type 0) (o : Option TvEvent) (events : List TvEvent)
+    (own : History) → IsKeptApart who P
+    → ((k : Kind) → IfSome o (λ e. concerns (peer_of who k) e ≡ false))
+    → IfSome o (λ e. IsSound e (calls_of addresses events).sessions)
+    → IsStaging who events own → IsStaging who (option_to_list o ++ events) own → P events own
+    → P (option_to_list o ++ events) own
+apart_kept who P None events own kept other sound before after p = p
+apart_kept who P (Some e) events own kept other sound before after p = kept e events own other sound before after p
+
+-- What holds at the start of companion `who`, and is kept by its own verbs and by the events of others, holds after
+-- accepted lines.
+pub each_end : (header : Header) (who : ℕ) (P : List TvEvent → History → Type 0) → 1 ≤ who → P [] []
+    → IsKeptBy header who P → IsKeptApart who P
+    → (lines : List Numbered) → AreAccepted header lines → P (events_of header lines) (history_of who header lines)
+each_end header who P first start kept apart [] accepted = start
+each_end header who P first start kept apart (now ∷ older) accepted =
+    let count = length header.companions in
+    let events = events_of header older in
+    let own = history_of who header older in
+    let made = datagrams header older in
+    let v = now.line.verb in
+    let all = staging header older accepted.4 in
+    let before : IsStaging who events own =
+    staging_of_one count who events (λ n. history_of n header older) first all in
+    let after : IsStaging who (events_of header (now ∷ older)) (history_of who header (now ∷ older)) =
+    staging_of_one count who (events_of header (now ∷ older)) (λ n. history_of n header (now ∷ older)) first
+    (staging header (now ∷ older) accepted) in
+    let p = each_end header who P first start kept apart older accepted.4 in
+    elim (eqb_tells now.line.who who) [
+      | inl same ↦
+          let can : can_talk who events own v ≡ true =
+          subst (λ n. can_talk n events (history_of n header older) v ≡ true) same.1
+          (can_talk_now header now older accepted) in
+          let es = events_now header now older who same.1 in
+          let h = history_now header now older who same.1 in
+          let done = done_by header who made events v own in
+          let staged : IsStaging who (events_with who events own v) done =
+          subst (λ (xs : List TvEvent). IsStaging who xs done) es
+          (subst (λ (ys : History). IsStaging who (events_of header (now ∷ older)) ys) h after) in
+          subst (λ (ys : History). P (events_of header (now ∷ older)) ys) (sym h)
+          (subst (λ (xs : List TvEvent). P xs done) (sym es)
+          (kept made v events own accepted.0.verb can all.below before staged p))
+      | inr differs ↦
+          let h = history_other header now older who differs.1 in
+          let event = event_by now.line.who events (history_of now.line.who header older) v in
+          let staged : IsStaging who (events_of header (now ∷ older)) own =
+          subst (λ (ys : History). IsStaging who (events_of header (now ∷ older)) ys) h after in
+          subst (λ (ys : History). P (events_of header (now ∷ older)) ys) (sym h)
+          (apart_kept who P event events own apart
+          (λ k. apart_now header now older who k accepted first differs.1) (sound_now header now older accepted all)
+          before staged p)
+    ]

@@ -1,0 +1,11 @@
+pub mod Numbering
+pub mod Sessions
+pub mod Happened
+pub mod Worlds
+pub mod Printed
+pub mod Clocks
+pub mod Verdicts
+pub mod Accepted
+pub mod Arrived
+pub mod Truth
+pub mod FaultWords

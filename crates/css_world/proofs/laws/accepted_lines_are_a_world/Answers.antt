@@ -1,5 +1,0 @@
-use Rattle.css_world.proofs.Truth.{accepted_lines_are_world}
-use Rattle.css_world.proofs.laws.accepted_lines_are_a_world.Goals as goal
-
-pub returns : goal.returns
-returns c = accepted_lines_are_world
