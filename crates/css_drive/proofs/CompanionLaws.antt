@@ -209,7 +209,7 @@ module _ (config : DriveConfig) (older : History) (w : Within config older) wher
   call_within : (d : Due) → due config older ≡ d → (call : History) → MayAdd d call → Within config (call ++ older)
   call_within (Now y) e call m = put call _ m.1 (read y m.0.reading m.0.slept e)
   call_within (Dial k to) e call (inl m) = put call _ m.1 w
-  call_within (Dial k to) e call (inr m) = put call _ m w
+  call_within (Dial k to) e call (inr m) = put call _ m.1 w
   call_within Accept e call (None, is) = put call _ is w
   call_within Accept e call (Some (peer, k), is) = put call _ is w
   call_within TakeDatagram e call (room, None, is) = put call _ is w

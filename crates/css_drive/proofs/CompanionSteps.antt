@@ -1,10 +1,11 @@
 -- How a run's history goes on by a call.
 use Rattle.std.proofs.Common.{◌≡◌, ℕ, ◌≤◌, ◌<◌, arith, ap, sym, ◌∙◌, subst, refl, Bool, true, false, cond, List, []}
 use Rattle.std.proofs.Common.{◌∷◌, ◌++◌, append_assoc, Option, Some, None, eq-eqb, inl, inr, Result, Ok, Err}
-use Rattle.std.specs.Prelude.{is_some, IfSome, MatchResult, IsErrAnd, ◌&&◌, ◌||◌, OnOk, IfErr, ◌<◌}
+use Rattle.std.specs.Prelude.{is_some, IfSome, MatchResult, IsErrAnd, ◌&&◌, ◌||◌, OnOk, IfErr, IfOk, ◌<◌}
 use Rattle.std.specs.Option.{option_or}
 use Rattle.std.proofs.lemmas.Bool.{ne_eqb, or_from}
 use Rattle.css_model.specs.declared.Kind.{Kind}
+use Rattle.css_model.specs.declared.Failure.{Failure}
 use Rattle.css_model.specs.declared.Kind.TheVariants as kind
 use Rattle.css_model.specs.Explains.{IsLawful, IsJustAsked}
 use Rattle.css_model.specs.History.{Address, Dialling, Dialled, History, Entry, NotDialled, Took, Heard, is_sleep}
@@ -177,17 +178,17 @@ module _ {config : DriveConfig} {before now : Shown} {saw : List Note → Type 0
       (peers_later _ _ (call ++ history) (omega (arith, same)) peers) after notes facts
 
   -- a dial
-  pub stands_tried : (k : Kind) (to : Address) → due config history ≡ Dial k to → (tried : Option ℕ)
+  pub stands_tried : (k : Kind) (to : Address) → due config history ≡ Dial k to → (tried : Result ℕ Failure)
       → {next : Shown} → HasDialled now next k to tried → {after : List Note → Type 0}
       → after (dial_notes (standpoint config (Dialling k to ∷ history)) k tried ++ noted config history)
       → {later : Live} → facts_of config (dial_entries k to tried ++ history) ≡ later
       → Stands config before next after later (dial_entries k to tried ++ history)
-  stands_tried k to d None {next} t {after} notes facts =
-      stands_saw (Dial k to) d (dial_entries k to None) (inr refl) next t.told t.faults
+  stands_tried k to d (Err f) {next} t {after} notes facts =
+      stands_saw (Dial k to) d (dial_entries k to (Err f)) (inr (f, refl)) next t.told t.faults
       (peers_later now.counts.peers next.counts.peers history t.later s.peers) after notes facts
-  stands_tried k to d (Some q) {next} t {after} notes facts =
-      stands_saw (Dial k to) d (dial_entries k to (Some q)) (inl (q, refl)) next t.told t.faults
-      (peers_later q next.counts.peers (dial_entries k to (Some q) ++ history) t.peer.1
+  stands_tried k to d (Ok q) {next} t {after} notes facts =
+      stands_saw (Dial k to) d (dial_entries k to (Ok q)) (inl (q, refl)) next t.told t.faults
+      (peers_later q next.counts.peers (dial_entries k to (Ok q) ++ history) t.peer.1
       (peers_dialled now.counts.peers q k to history s.peers t.peer.0)) after notes facts
 
   -- the run came to this history
@@ -309,12 +310,12 @@ pub knows_dialling : {own : CompanionConfig} {companion : Companion} (k : Kind) 
     → Knows own companion history → Knows own companion (Dialling k to ∷ history)
 knows_dialling k to knows = knows_plain (Dialling k to) knows refl refl refl refl refl refl refl
 
-pub knows_tried : {own : CompanionConfig} {companion : Companion} (k : Kind) (to : Address) (tried : Option ℕ)
-    {history : History} → IfSome tried (λ p. opens_ts (Dialled k p) ≡ false) → Knows own companion history
+pub knows_tried : {own : CompanionConfig} {companion : Companion} (k : Kind) (to : Address) (tried : Result ℕ Failure)
+    {history : History} → IfOk tried (λ p. opens_ts (Dialled k p) ≡ false) → Knows own companion history
     → Knows own companion (dial_entries k to tried ++ history)
-knows_tried k to None other knows =
-    knows_plain (NotDialled k) (knows_dialling k to knows) refl refl refl refl refl refl refl
-knows_tried k to (Some p) other knows =
+knows_tried k to (Err f) other knows =
+    knows_plain (NotDialled k f) (knows_dialling k to knows) refl refl refl refl refl refl refl
+knows_tried k to (Ok p) other knows =
     knows_plain (Dialled k p) (knows_dialling k to knows) refl refl refl refl refl refl (or_from _ _ other refl)
 
 -- ---- what is due

@@ -1,10 +1,11 @@
 -- How the variables of a companion's run stand for its history.
 use Rattle.std.specs.Prelude.{◌≡◌, ◌≤◌, ◌<◌, ℕ, List, Bool, true, false, [], ◌∷◌, ◌++◌, Option, Some, None, Result, Ok}
-use Rattle.std.specs.Prelude.{Err, MatchResult, OnOk, IfErr, IfSome, is_some, nat_lt, ◌&&◌, ◌||◌, if◌then◌else◌}
+use Rattle.std.specs.Prelude.{Err, MatchResult, OnOk, IfErr, IfOk, is_some, nat_lt, ◌&&◌, ◌||◌, if◌then◌else◌}
 use Rattle.std.specs.Prelude.{length, not, ⊤, ◌+◌, unwrap_or}
 use Rattle.css_model.specs.declared.TheConstants.{LIMIT}
 use Rattle.css_model.specs.declared.Why.{Why}
 use Rattle.css_model.specs.declared.Kind.{Kind}
+use Rattle.css_model.specs.declared.Failure.{Failure}
 use Rattle.css_model.specs.declared.Kind.TheVariants as kind
 use Rattle.css_model.specs.Explains.{IsLawful}
 use Rattle.css_model.specs.History.{Address, Dialling, Dialled, NotDialled, Heard, HungUp, History}
@@ -237,16 +238,16 @@ GivesPlace property told (Err driven.Memory) = ⊤
 GivesPlace property told (Err ended) = (bad : AddressFault) × (ended ≡ driven.BadUrl property) × (told ≡ Some (Err bad))
 
 -- the entries of a dial, which failed or gave a peer
-abbrev pub dial_entries : Kind → Address → Option ℕ → History
-dial_entries kind to None = NotDialled kind ∷ Dialling kind to ∷ []
-dial_entries kind to (Some peer) = Dialled kind peer ∷ Dialling kind to ∷ []
+abbrev pub dial_entries : Kind → Address → Result ℕ Failure → History
+dial_entries kind to (Err failure) = NotDialled kind failure ∷ Dialling kind to ∷ []
+dial_entries kind to (Ok peer) = Dialled kind peer ∷ Dialling kind to ∷ []
 
 -- a dial was tried
-pub record HasDialled (old new : Shown) (kind : Kind) (to : Address) (tried : Option ℕ) : Type 0 where
+pub record HasDialled (old new : Shown) (kind : Kind) (to : Address) (tried : Result ℕ Failure) : Type 0 where
   pub told : new.told ≡ with_entries (dial_entries kind to tried) old.told
   pub faults : new.counts.faults ≡ old.counts.faults
   pub later : old.counts.peers ≤ new.counts.peers
-  pub peer : IfSome tried (λ peer. (old.counts.peers < peer) × (peer ≤ new.counts.peers))
+  pub peer : IfOk tried (λ peer. (old.counts.peers < peer) × (peer ≤ new.counts.peers))
 
 -- after a sleep no request was sent any more
 abbrev pub asked_after : Bool → Option ℕ → Option ℕ

@@ -1,11 +1,12 @@
 -- What an observer of a companion's run is told, the newest first.
 use Rattle.std.specs.Prelude.{◌≡◌, ℕ, ◌+◌, List, [], ◌∷◌, ◌++◌, length, Bool, true, false, if◌then◌else◌, Option, Some}
-use Rattle.std.specs.Prelude.{None}
+use Rattle.std.specs.Prelude.{None, Result, Ok, Err}
 use Rattle.std.specs.Option.{option_map}
 use Rattle.css_model.specs.declared.Why.{Why}
 use Rattle.css_model.specs.declared.Why.TheVariants as why
 use Rattle.css_model.specs.declared.Kind.{Kind}
 use Rattle.css_model.specs.declared.Kind.TheVariants as kind
+use Rattle.css_model.specs.declared.Failure.{Failure}
 use Rattle.css_model.specs.History.{Entry, Clock, NotDialled, Sent, Took, Gone, History}
 use Rattle.css_model.specs.History as entries
 use Rattle.css_outside.specs.Outsides.{sleep_entries}
@@ -28,8 +29,8 @@ pub data Event : Type 0 where
   Slept : Event
   -- a turn began at this reading
   Turn : (reading : ℕ) → Event
-  -- a dial of this kind was tried: its peer, or none where it failed
-  Dialled : (kind : Kind) → (peer : Option ℕ) → Event
+  -- a dial of this kind was tried: its peer, or what the system said where it failed
+  Dialled : (kind : Kind) → (tried : Result ℕ Failure) → Event
   -- the request of this reading was sent
   Asked : (reading : ℕ) → Event
   -- a datagram of these bytes was taken, and the reading after it was this
@@ -81,8 +82,8 @@ clock_event _ reading older = None
 abbrev pub event_of : Entry → History → Option Event
 event_of entries.Slept older = Some Slept
 event_of (Clock why reading) older = clock_event why reading older
-event_of (entries.Dialled kind peer) older = Some (Dialled kind (Some peer))
-event_of (NotDialled kind) older = Some (Dialled kind None)
+event_of (entries.Dialled kind peer) older = Some (Dialled kind (Ok peer))
+event_of (NotDialled kind failure) older = Some (Dialled kind (Err failure))
 event_of (Sent peer bytes) older = option_map Asked (asking older)
 event_of (entries.Heard peer bytes) older = option_map (λ which. Heard which bytes) (session_at peer older)
 event_of (entries.Closed peer) older = option_map Closed (session_at peer older)
@@ -128,8 +129,8 @@ abbrev pub landing_notes : Standpoint → Clocked → List ℕ → List Note
 landing_notes from clocked bytes =
     Happened (slept_from from clocked.slept) (Landed clocked.reading bytes) ∷ slept_notes from clocked.slept
 
-abbrev pub dial_notes : Standpoint → Kind → Option ℕ → List Note
-dial_notes from kind peer = Happened from (Dialled kind peer) ∷ []
+abbrev pub dial_notes : Standpoint → Kind → Result ℕ Failure → List Note
+dial_notes from kind tried = Happened from (Dialled kind tried) ∷ []
 
 abbrev pub heard_notes : Session → Standpoint → Answer → List Note
 heard_notes which from answer.Quiet = []

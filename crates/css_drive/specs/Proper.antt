@@ -2,6 +2,7 @@
 use Rattle.std.specs.Prelude.{◌≡◌, ◌⊎◌, ℕ, List, [], ◌∷◌, ◌++◌, Option}
 use Rattle.css_model.specs.declared.Why.{Why}
 use Rattle.css_model.specs.declared.Kind.{Kind}
+use Rattle.css_model.specs.declared.Failure.{Failure}
 use Rattle.css_model.specs.History.{Address, Listening, Dialling, Dialled, NotDialled, Sent, HungUp, History}
 use Rattle.css_outside.specs.Outsides.{clock_entries, opening_entries, datagram_entries, heard_entries, wrote_entries}
 use Rattle.css_outside.specs.declared.calls.Clocked.{Clocked}
@@ -27,7 +28,8 @@ abbrev pub MayAdd : Due → History → Type 0
 MayAdd (Listen host port) call = call ≡ Listening host port ∷ []
 MayAdd (Now why) call = (clocked : Clocked) × (call ≡ clock_entries why clocked)
 MayAdd (Dial kind to) call =
-    ((peer : ℕ) × (call ≡ Dialled kind peer ∷ Dialling kind to ∷ [])) ⊎ (call ≡ NotDialled kind ∷ Dialling kind to ∷ [])
+    ((peer : ℕ) × (call ≡ Dialled kind peer ∷ Dialling kind to ∷ []))
+    ⊎ ((failure : Failure) × (call ≡ NotDialled kind failure ∷ Dialling kind to ∷ []))
 MayAdd Accept call = (came : Option (ℕ × Kind)) × (call ≡ opening_entries came)
 MayAdd (SendDatagram peer bytes) call = call ≡ Sent peer bytes ∷ []
 MayAdd TakeDatagram call = (room : List ℕ) × (came : Option (ℕ × ℕ)) × (call ≡ datagram_entries room came)

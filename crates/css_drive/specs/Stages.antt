@@ -2,6 +2,7 @@
 use Rattle.std.specs.Prelude.{◌≡◌, ◌⊎◌, ℕ, List, [], ◌∷◌, ◌++◌, Bool, true, false, Option, Some, None, Result, Ok, Err}
 use Rattle.std.specs.Prelude.{MatchResult, if◌then◌else◌}
 use Rattle.css_model.specs.declared.Kind.{Kind}
+use Rattle.css_model.specs.declared.Failure.{Failure}
 use Rattle.css_model.specs.declared.Kind.TheVariants as kind
 use Rattle.css_model.specs.declared.Why.TheVariants as why
 use Rattle.css_model.specs.History.{Address, Clock, Sent, Took, History}
@@ -40,15 +41,15 @@ at told counts run = at_of (shown_of told counts run) run.live.now run.companion
 
 -- ---- dials
 -- the variables after a dial
-abbrev pub with_dial : Kind → Option ℕ → Live → Live
-with_dial kind None live = live
-with_dial kind.Cii (Some peer) live = record live { cii = Some peer; cii_open = Some peer }
-with_dial kind.Wc (Some peer) live = record live { wc = Some peer }
-with_dial kind.Ts (Some peer) live = record live { ts = Some peer; ts_open = Some peer }
+abbrev pub with_dial : Kind → Result ℕ Failure → Live → Live
+with_dial kind (Err failure) live = live
+with_dial kind.Cii (Ok peer) live = record live { cii = Some peer; cii_open = Some peer }
+with_dial kind.Wc (Ok peer) live = record live { wc = Some peer }
+with_dial kind.Ts (Ok peer) live = record live { ts = Some peer; ts_open = Some peer }
 
 -- a dial was tried
 pub record Dials (kind : Kind) (to : Address) (old new : At) : Type 0 where
-  pub tried : Option ℕ
+  pub tried : Result ℕ Failure
   pub called : HasDialled old.shown new.shown kind to tried
   pub live : new.live ≡ with_dial kind tried old.live
   pub same : new.companion ≡ old.companion

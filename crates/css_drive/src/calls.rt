@@ -13,7 +13,7 @@ use css_address::{AddressFault, address};
 use css_cii::CiiName;
 use css_companion::CompanionFault;
 use css_num::Text;
-use css_outside::{Address, Heard, Kind, OutFault, Outside, Wrote};
+use css_outside::{Address, Failure, Heard, Kind, OutFault, Outside, Wrote};
 use std::alloc::Global;
 
 /// How a run ends with a fault of the outside, of an observer that isn't over.
@@ -62,19 +62,23 @@ pub fn place(
     }
 }
 
-/// Tries a dial. One that fails ends nothing.
-pub fn dial<O: Outside>(outside: &mut O, kind: Kind, to: &Address) -> Result<Option<u32>, Driven>
+/// Tries a dial. One that fails ends nothing, and tells what the system said.
+pub fn dial<O: Outside>(
+    outside: &mut O,
+    kind: Kind,
+    to: &Address,
+) -> Result<Result<u32, Failure>, Driven>
     ensures told { Calls (shown (O.told outside.old) (O.counts outside.old))
         (shown (O.told outside.new) (O.counts outside.new)) None (λ old new. HasDialled old new kind to.now) result }
     ensures last { (O.counts outside.new).last ≡ (O.counts outside.old).last }
     ensures dials { (O.counts outside.old).dial_faults ≤ (O.counts outside.new).dial_faults }
-    ensures tried { IfOk result (λ tried. tried ≡ None
-        → HasRisen (O.counts outside.old).dial_faults (O.counts outside.new).dial_faults) }
+    ensures tried { IfOk result (λ tried. IfErr tried (λ _.
+        HasRisen (O.counts outside.old).dial_faults (O.counts outside.new).dial_faults)) }
     ensures early { IfErr result IsEarly }
 {
     match outside.dial(kind, to) {
-        Ok(peer) => Ok(Some(peer)),
-        Err(OutFault::Failed(_)) => Ok(None),
+        Ok(peer) => Ok(Ok(peer)),
+        Err(OutFault::Failed(failure)) => Ok(Err(failure)),
         Err(OutFault::Memory) => Err(Driven::Memory),
     }
 }

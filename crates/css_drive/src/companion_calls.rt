@@ -20,7 +20,7 @@ use crate::driven::Driven;
 use crate::observes::Observes;
 use crate::session::Session;
 use css_companion::{Companion, CompanionEvent};
-use css_outside::{Address, Clocked, Kind, OutFault, Outside, Why, Wrote};
+use css_outside::{Address, Clocked, Failure, Kind, OutFault, Outside, Why, Wrote};
 
 /// How a run ends that its observer ends.
 fn unseen(fault: OutFault) -> Driven
@@ -62,7 +62,7 @@ pub fn try_dial<O: Outside, W: Observes>(
     observer: &mut W,
     kind: Kind,
     to: &Address,
-) -> Result<Option<u32>, Driven>
+) -> Result<Result<u32, Failure>, Driven>
     ensures told { Calls (shown (O.told outside.old) (O.counts outside.old))
         (shown (O.told outside.new) (O.counts outside.new)) (W.over observer.new)
         (λ old new. HasDialled old new kind to.now) result }
@@ -71,8 +71,8 @@ pub fn try_dial<O: Outside, W: Observes>(
         (λ _. W.saw started observer.new notes) }
     ensures last { (O.counts outside.new).last ≡ (O.counts outside.old).last }
     ensures dials { (O.counts outside.old).dial_faults ≤ (O.counts outside.new).dial_faults }
-    ensures tried { IfOk result (λ tried. tried ≡ None
-        → HasRisen (O.counts outside.old).dial_faults (O.counts outside.new).dial_faults) }
+    ensures tried { IfOk result (λ tried. IfErr tried (λ _.
+        HasRisen (O.counts outside.old).dial_faults (O.counts outside.new).dial_faults)) }
 {
     check(observer)?;
     let tried = dial(outside, kind, to)?;

@@ -59,7 +59,7 @@ impl<O: Outside, W: Observes> Run<'_, O, W> {
         let None = self.live.cii else {
             return Ok(());
         };
-        let Some(peer) = try_dial(self.outside, self.observer, Kind::Cii, to)? else {
+        let Ok(peer) = try_dial(self.outside, self.observer, Kind::Cii, to)? else {
             return Ok(());
         };
         self.live.cii = Some(peer);
@@ -83,7 +83,7 @@ impl<O: Outside, W: Observes> Run<'_, O, W> {
         let Some(to) = place(self.alloc, Kind::Wc, CiiName::WcUrl, url)? else {
             return Ok(());
         };
-        let Some(peer) = try_dial(self.outside, self.observer, Kind::Wc, &to)? else {
+        let Ok(peer) = try_dial(self.outside, self.observer, Kind::Wc, &to)? else {
             return Ok(());
         };
         self.live.wc = Some(peer);
@@ -132,7 +132,7 @@ impl<O: Outside, W: Observes> Run<'_, O, W> {
         let Some(to) = place(self.alloc, Kind::Ts, CiiName::TsUrl, url)? else {
             return Ok(());
         };
-        let Some(peer) = try_dial(self.outside, self.observer, Kind::Ts, &to)? else {
+        let Ok(peer) = try_dial(self.outside, self.observer, Kind::Ts, &to)? else {
             return Ok(());
         };
         self.live.ts = Some(peer);

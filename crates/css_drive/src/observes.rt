@@ -10,7 +10,7 @@ use crate::session::Session;
 use css_companion::{Companion, Report};
 use css_model::LIMIT;
 use css_num::Text;
-use css_outside::{Clocked, Kind, OutFault};
+use css_outside::{Clocked, Failure, Kind, OutFault};
 
 /// Who is told what happens in a companion's run, and its reports, each where it was made. A run is generic in it.
 ///
@@ -52,9 +52,9 @@ pub trait Observes {
             → Sees saw over self.old self.new (Reported (slept_from from clocked.now.slept) number report.now
             ∷ notes.turn_notes from clocked.now) };
 
-    /// A dial was tried: its peer, or none where it failed.
-    fn dialled(&mut self, kind: Kind, peer: Option<u32>)
-        ensures { (from : Standpoint) → Sees saw over self.old self.new (notes.dial_notes from kind peer) };
+    /// A dial was tried: its peer, or what the system said where it failed.
+    fn dialled(&mut self, kind: Kind, tried: Result<u32, Failure>)
+        ensures { (from : Standpoint) → Sees saw over self.old self.new (notes.dial_notes from kind tried) };
 
     /// The request of this reading was sent.
     fn asked(&mut self, reading: u64)
@@ -102,7 +102,7 @@ impl Observes for () {
         _companion: &Companion,
     ) {}
 
-    fn dialled(&mut self, _kind: Kind, _peer: Option<u32>) {}
+    fn dialled(&mut self, _kind: Kind, _tried: Result<u32, Failure>) {}
 
     fn asked(&mut self, _reading: u64) {}
 

@@ -6,7 +6,7 @@ use crate::session::Session;
 use css_companion::{Companion, Report, line};
 use css_follow::Listens;
 use css_num::Text;
-use css_outside::{Clocked, Kind, OutFault, Sink, write_all};
+use css_outside::{Clocked, Failure, Kind, OutFault, Sink, write_all};
 use std::alloc::Global;
 
 /// Writes each report to a sink, with what the followers say of it, in one write.
@@ -72,7 +72,7 @@ impl<K: Sink, F: Listens> Observes for Telling<'_, K, F> {
         self.over = tell_report(self.alloc, number, report, self.sink, self.followers);
     }
 
-    fn dialled(&mut self, _kind: Kind, _peer: Option<u32>) {}
+    fn dialled(&mut self, _kind: Kind, _tried: Result<u32, Failure>) {}
 
     fn asked(&mut self, _reading: u64) {}
 

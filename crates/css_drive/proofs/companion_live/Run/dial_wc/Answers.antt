@@ -1,4 +1,4 @@
-use Rattle.std.proofs.Common.{refl, ap, Some, None, ℕ, ◌∷◌}
+use Rattle.std.proofs.Common.{refl, ap, Ok, Err, Some, None, ℕ, ◌∷◌}
 use Rattle.css_model.specs.declared.Kind.TheVariants as kind
 use Rattle.css_drive.specs.declared.companion_live.Live.{Live}
 use Rattle.css_drive.specs.Notes.{standpoint}
@@ -13,21 +13,21 @@ returns-in_err-to-clause-called g c =
 
 pub returns-clause-goes : goal.returns-clause-goes
 returns-clause-goes g c config before started h s k d =
-    let p : ℕ = c.in-Some-2.peer in
+    let p : ℕ = c.in-Ok.peer in
     let gives = rw c.in-Some.is at c.in_ok-to.ensures.gives in
     let t = calls.wc_due s d c.in-None.is _ (c.state.ensures.meaning h k.stands) _ gives in
-    let call = rw c.in-Some-2.is at c.in_ok-peer.ensures in
-    comes (stands_tried s kind.Wc c.in-Some.to t (Some p) call.told
+    let call = rw c.in-Ok.is at c.in_ok-peer.ensures in
+    comes (stands_tried s kind.Wc c.in-Some.to t (Ok p) call.told
     (call.saw (standpoint _ (_ ∷ h)) started _ s.saw_so) (ap {A = Live} (λ x. record x { wc = Some p }) s.facts))
-    (calls.knows_tried kind.Wc c.in-Some.to (Some p) refl k) _ refl
+    (calls.knows_tried kind.Wc c.in-Some.to (Ok p) refl k) _ refl
 
 pub returns-in_default-3-clause-goes : goal.returns-in_default-3-clause-goes
 returns-in_default-3-clause-goes g c config before started h s k d =
     let gives = rw c.in-Some.is at c.in_ok-to.ensures.gives in
     let t = calls.wc_due s d c.in-None.is _ (c.state.ensures.meaning h k.stands) _ gives in
     let call = rw c.in_default-3.is at c.in_ok-peer.ensures in
-    comes (stands_tried s kind.Wc c.in-Some.to t None call.told (call.saw (standpoint _ (_ ∷ h)) started _ s.saw_so)
-    s.facts) (calls.knows_tried kind.Wc c.in-Some.to None tt k) _ refl
+    comes (stands_tried s kind.Wc c.in-Some.to t (Err _) call.told (call.saw (standpoint _ (_ ∷ h)) started _ s.saw_so)
+    s.facts) (calls.knows_tried kind.Wc c.in-Some.to (Err _) tt k) _ refl
 
 pub returns-in_err-to-clause-goes : goal.returns-in_err-to-clause-goes
 returns-in_err-to-clause-goes g c config before started h s k d =
