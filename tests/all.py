@@ -27,10 +27,9 @@ import build
 PROGRAM = TOP / "crates" / "css" / "out" / "css"
 DOCS = (["docs/check.py"], ["docs/claims.py"], ["docs/sizes.py"], ["docs/trusted.py", "--check"])
 # What a script is told besides.
-WORDS = {"tests/library.py": ["--over-gate"]}
+WORDS = {"tests/drives.py": ["--over-gate"], "tests/library.py": ["--over-gate"]}
 # The sessions of the pages have ports that somebody else may have.
 IN_OWN_NETWORK = {"docs/check.py"}
-NOT_RUN = {"bench/drives.py": "its program is proved over copies of the crates, which takes longer than all of this"}
 LIMIT = 1800  # Only what hangs takes so many seconds.
 RUNNING = set()
 
@@ -107,9 +106,6 @@ def main(names):
         finally:
             for child in list(RUNNING):
                 os.killpg(child.pid, signal.SIGKILL)
-    for name, why in NOT_RUN.items() if not names else ():
-        print(f"skipped {name}: {why}")
-        skipped += 1
     if failed:
         print(f"tests/all.py: FAILED: {' '.join(sorted(failed))}")
     print(f"{passed} passed, {len(failed)} failed{f', {skipped} skipped' if skipped else ''}", flush=True)

@@ -94,16 +94,19 @@ def lanes():
 
 
 class Prover:
-    """Proves a crate and all below it as they stand when it begins: it works on a copy, in a folder that is removed."""
+    """Proves a crate and all below it as they stand when it begins: it works on a copy, in a folder that is removed. A
+    crate that is none of the repository's stands there already, and names these libraries."""
 
-    def __init__(self, room, crate, kind, made):
+    def __init__(self, room, crate, kind, made, libraries=()):
         self.room, self.top, self.kind, self.made = Path(room), crate, kind, made
         self.graph, self.running, self.libraries = Graph(), {}, LIBRARIES
         self.kit, self.version, self.lanes = Path(rt("doc")).parent, rt("version"), lanes()
+        self.graph.named.setdefault(crate, [*libraries])
         self.crates = self.graph.closure(crate)
         for name in self.crates:
             skipped = shutil.ignore_patterns("out", "must-fail")
-            shutil.copytree(TOP / "crates" / name, self.room / name, ignore=skipped)
+            if not (self.room / name).is_dir():
+                shutil.copytree(TOP / "crates" / name, self.room / name, ignore=skipped)
 
     @functools.cache
     def sum(self, crate):
@@ -208,6 +211,13 @@ def refuse(crate, said):
     sys.exit(CANNOT)
 
 
+def link(kit, made, program):
+    """Makes a program of what the compiler made."""
+    words = ["--target", "x86_64-unknown-linux-gnu", "--toolchain", kit / "toolchain", "-o", program, made]
+    archives = [kit / "c" / name for name in ("libos_c.a", "liblibc_c.a")]
+    subprocess.run([kit / "bin/rattle-link", *words, *archives], stdout=subprocess.DEVNULL, check=True)
+
+
 def build(program):
     """Builds beside the program that stands, and puts the new one in its place. One that fails leaves the old one."""
     begun = time.time()
@@ -221,9 +231,7 @@ def build(program):
         print(f"css: {why}: proving {len(prover.crates)} crates{part}", file=sys.stderr)
         print("css: ./css --try WORDS runs the same words without proofs", file=sys.stderr, flush=True)
         prover.prove()
-        words = ["--target", "x86_64-unknown-linux-gnu", "--toolchain", prover.kit / "toolchain", "-o", linked, made]
-        archives = [prover.kit / "c" / name for name in ("libos_c.a", "liblibc_c.a")]
-        subprocess.run([prover.kit / "bin/rattle-link", *words, *archives], stdout=subprocess.DEVNULL, check=True)
+        link(prover.kit, made, linked)
         program.parent.mkdir(parents=True, exist_ok=True)
         new = program.with_suffix(".new")
         shutil.copy(linked, new)

@@ -6,6 +6,8 @@
 mod child;
 mod clock;
 pub mod faults;
+mod sender;
+mod senders;
 mod shown;
 mod standard;
 mod streams;
@@ -14,6 +16,7 @@ mod window;
 
 pub use child::ChildSpawner;
 pub use clock::monotone;
+pub use senders::Senders;
 pub use standard::{PatientWriter, errors_take_line, take_standard_numbers};
 pub use streams::{StdSink, StdSource};
 pub use tally::{FIRST_SENDER, Tally};

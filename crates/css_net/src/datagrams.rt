@@ -1,13 +1,12 @@
 ghost use Rattle.std.specs.Prelude.{◌≡◌, ◌≤◌, IfOk, IfSome};
-ghost use Rattle.css_net.specs.Senders.{Means};
+ghost use Rattle.css_devices.specs.Senders.{Means};
 ghost use Rattle.css_outside.specs.Outsides.{FitsRoom};
 
 use crate::names::any_port;
 use crate::pace::{LookUps, Pace};
-use crate::senders::Senders;
 use crate::watch::Watch;
-use css_devices::FIRST_SENDER;
 use css_devices::faults::{fault_of, no_room};
+use css_devices::{FIRST_SENDER, Senders};
 use css_outside::{Address, Failure, OutFault};
 use mio::net::UdpSocket;
 use std::alloc::Global;
@@ -105,7 +104,7 @@ impl Listener {
 
     /// Sends a datagram to a sender that is remembered, and gives the address that its number means.
     fn send(&self, peer: u32, bytes: &[u8; 32]) -> Result<SocketAddr, OutFault>
-        ensures to { IfOk result (Means self.now.senders.list self.now.senders.next peer) }
+        ensures to { IfOk result (Means self.now.senders peer) }
     {
         match self.senders.address_of(peer) {
             Some(address) => send_to(&self.socket, address, bytes),

@@ -16,8 +16,6 @@ mod net_outside;
 mod pace;
 mod partings;
 mod seen;
-mod sender;
-mod senders;
 mod session;
 mod sessions;
 mod sockets;

@@ -4,7 +4,8 @@ use css_net::{NetOutside, NetRuntime};
 use css_num::Text;
 use css_outside::{Address, Failure, Heard, Kind, OutFault, Outside};
 use std::alloc::Global;
-use std::net::{Ipv4Addr, OpenListener, TcpListener};
+use std::io::Write;
+use std::net::{Ipv4Addr, OpenListener, OpenStream, Shutdown, TcpListener};
 use std::process::{self, Abort};
 use std::thread;
 use std::time::{Clock, Duration};
@@ -108,6 +109,30 @@ fn check_crossing<O: Outside>(rt: &impl Abort, tv: &mut O, companion: &mut O, at
     assert!(rt; first == 7);
 }
 
+/// Two companions ask at once, and the television answers the last first: each has what answers its own request. The
+/// number of a sender stays.
+fn check_two_askers<O: Outside>(
+    rt: &impl Abort,
+    tv: &mut O,
+    one: &mut O,
+    other: &mut O,
+    at: &Address,
+) {
+    listen(rt, tv, at);
+    let clock = dial_clock(rt, one, at);
+    send(rt, one, clock, 1);
+    let (first, _) = datagram_of(rt, tv);
+    let clock_of_other = dial_clock(rt, other, at);
+    send(rt, other, clock_of_other, 2);
+    let (second, _) = datagram_of(rt, tv);
+    send(rt, tv, second, 12);
+    send(rt, tv, first, 11);
+    let told = (datagram_of(rt, one), datagram_of(rt, other));
+    assert!(rt; told == ((clock, 11), (clock_of_other, 12)));
+    send(rt, one, clock, 3);
+    assert!(rt; datagram_of(rt, tv) == (first, 3) && second != first);
+}
+
 /// A relay listens and dials: a companion's datagram goes over it to a television, and one comes back.
 fn check_relaying<O: Outside>(
     rt: &impl Abort,
@@ -138,6 +163,14 @@ fn cross<R: NetRuntime>(rt: &impl Abort, alloc: Global, net: R, port: u16) {
     let mut tv = NetOutside::new(alloc, net);
     let mut companion = NetOutside::new(alloc, net);
     check_crossing(rt, &mut tv, &mut companion, &at);
+}
+
+fn ask_at_once<R: NetRuntime>(rt: &impl Abort, alloc: Global, net: R, port: u16) {
+    let at = television_at(rt, alloc, port);
+    let mut tv = NetOutside::new(alloc, net);
+    let mut one = NetOutside::new(alloc, net);
+    let mut other = NetOutside::new(alloc, net);
+    check_two_askers(rt, &mut tv, &mut one, &mut other, &at);
 }
 
 fn relay<R: NetRuntime>(rt: &impl Abort, alloc: Global, net: R, port: u16) {
@@ -223,6 +256,48 @@ fn silent_at<R: NetRuntime>(rt: &impl Abort, net: &R, port: u16) -> R::Listener 
     listener
 }
 
+/// What answers a dial, and how the dial fails.
+#[rattlefmt::skip]
+const ANSWERS: [(&[u8], Failure); 5] = [
+    (b"SSH-2.0-a\r\n\r\n", Failure::NoWebSocket),
+    (b"220 a\r\n", Failure::NoWebSocket),
+    (b"HTTP/1.1 101 a\r\nUpgrade: websocket\r\nConnection: Upgrade\r\nSec-WebSocket-Accept: a\r\n\r\n",
+        Failure::NoWebSocket),
+    (b"HTTP/1.1 503 a\r\n\r\n", Failure::HttpStatus(503)),
+    (b"", Failure::Other),
+];
+
+/// How the dials at a listener fail that answers each with these bytes, and says no more.
+fn failure_at<R: NetRuntime>(
+    companion: &mut NetOutside<R>,
+    listener: &R::Listener,
+    to: &Address,
+    answer: &[u8],
+) -> Option<Failure> {
+    let mut answered = None;
+    for _ in 0..TURNS {
+        let _ = companion.dial(Kind::Cii, to);
+        let _ = companion.take_datagram(&mut [0u8; 64]);
+        if let Ok((mut stream, _)) = listener.accept() {
+            let _ = stream.write(answer);
+            let _ = stream.shutdown(Shutdown::Write);
+            answered = Some(stream);
+        }
+    }
+    drop(answered);
+    companion.last_dial_failure()
+}
+
+fn dial_at_others<R: NetRuntime>(rt: &impl Abort, alloc: Global, net: R, port: u16) {
+    let listener = silent_at(rt, &net, port);
+    let to = television_at(rt, alloc, port);
+    for (answer, failure) in ANSWERS {
+        let mut companion = NetOutside::new(alloc, net);
+        let told = failure_at(&mut companion, &listener, &to, answer);
+        assert!(rt; told == Some(failure), "{failure:?}");
+    }
+}
+
 /// Whether somebody has dialled a listener.
 fn is_dialled(net: &impl Clock, listener: &impl OpenListener) -> bool {
     thread::sleep(net, Duration::from_millis(CONNECTS));
@@ -273,4 +348,16 @@ fn a_closed_port_is_dialled_at_a_pace(rt: HostRuntime) {
     let port = 56000 + (process::id(rt.process()) % 1000) as u16;
     let to = television_at(&rt, rt.alloc(), port);
     check_pace(&rt, &rt, NetOutside::new(rt.alloc(), &rt), &to);
+}
+
+#[test]
+fn what_answers_a_dial_may_open_no_web_socket(rt: HostRuntime) {
+    let port = 57000 + (process::id(rt.process()) % 1000) as u16;
+    dial_at_others(&rt, rt.alloc(), &rt, port);
+}
+
+#[test]
+fn each_asker_has_its_own_answer(rt: HostRuntime) {
+    let port = 58000 + (process::id(rt.process()) % 1000 * 2) as u16;
+    ask_at_once(&rt, rt.alloc(), &rt, port);
 }

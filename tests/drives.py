@@ -1,28 +1,33 @@
 #!/usr/bin/env python3
 """Refuses each allocation of a live companion's run and of a live television's in turn, one a run, until a run meets no
-refusal; counts the allocations of a television's quiet turns; and counts the instructions of a quiet turn of each end.
+refusal, and counts the allocations of a television's quiet turns.
 
-    bench/drives.py [PROGRAM]     the program, where an earlier run built it; else it is built
+    tests/drives.py [--over-gate] [PROGRAM]     the program, where an earlier run built it; else it is built, with
+                                                --over-gate over the libraries that `rt ci` left
 
 The companion makes two reports, of an answer and a control timestamp; the television serves such a companion, which
 then tells when it can present. Both stand over devices in memory, and write at once what they write or send. Each run
 with a refusal must end with want of memory, and with a front part of what is written without one. Then a television
 with 256 quiet sessions makes 300 turns, and 1,300: it must allocate as often in both. A quiet turn is one in which
-nothing comes: of this television, and of a companion or a relay whose sessions are open. Its instructions are those by
-which 3,000 turns differ from 1,000, counted by callgrind where valgrind is installed. The program is no part of this
-repository: it is made, proved and built in a folder of its own over copies of the crates, which takes some minutes
-where nothing was proved in this checkout before.
+nothing comes. The program is no part of this repository: it is proved and built in a folder that is removed.
 """
-
+import contextlib
 import os
-import re
 import shutil
 import subprocess
 import sys
 import tempfile
+from pathlib import Path
 
-from programs import build
-import refusals  # It stands in tests/, which `programs` names.
+sys.dont_write_bytecode = True
+import refusals
+from checks import TOP
+
+sys.path.insert(0, str(TOP / "tools"))
+from build import Prover, alone, link
+from library import OverGate
+
+NAME = "drives"
 
 LIBRARIES = [
     "css_num", "css_outside", "css_memory", "css_client", "css_tsmsg", "css_companion", "css_schedule", "css_tv",
@@ -514,16 +519,23 @@ def allocations(program, library, turns):
     return least
 
 
-def instructions(program, kind, turns):
-    """The instructions of a run of so many quiet turns."""
-    words = ["valgrind", "--tool=callgrind", "--callgrind-out-file=/dev/null", program, kind, str(turns)]
-    ran = subprocess.run(words, stdin=subprocess.DEVNULL, capture_output=True, text=True, check=True)
-    return int(re.search(r"refs: +([0-9,]+)", ran.stderr).group(1).replace(",", ""))
+def build(room, is_over_gate):
+    """Proves and builds the program in this folder."""
+    files = {"src/main.rt": PROGRAM, **{f"proofs/{path}": text for path, text in PROOFS.items()}}
+    for path, text in files.items():
+        place = room / NAME / path
+        place.parent.mkdir(parents=True, exist_ok=True)
+        place.write_text(text)
+    made, program = room / "made.o", room / "program"
+    kind = OverGate if is_over_gate else Prover
+    with contextlib.nullcontext() if is_over_gate else alone():
+        prover = kind(room, NAME, ["src/main.rt", "--backend", "llvm"], made, LIBRARIES)
+        prover.prove()
+    link(prover.kit, made, program)
+    return program
 
 
-def measure(program):
-    library_folder = tempfile.mkdtemp()
-    library = refusals.build(library_folder)
+def judge(program, library):
     for kind in ["companion", "tv"]:
         count = refuse_each(program, library, kind)
         print(f"{kind}: {count} allocations refused, one a run: each ends with memory and a front part of what is "
@@ -532,20 +544,18 @@ def measure(program):
     if few != many:
         sys.exit(f"300 turns allocate {few} times, and 1,300 turns {many} times")
     print(f"quiet: {few} allocations in 300 turns as in 1,300, so a turn with 256 quiet sessions makes none")
-    shutil.rmtree(library_folder)
-    if shutil.which("valgrind"):
-        for kind in ["quiet_companion", "quiet_relay", "quiet_tv"]:
-            less, more = (instructions(program, kind, turns) for turns in (1000, 3000))
-            print(f"{kind}: {(more - less) // 2000} instructions a turn")
 
 
-def main():
-    if sys.argv[1:]:
-        measure(sys.argv[1])
+def main(words):
+    is_over_gate = words[:1] == ["--over-gate"]
+    words = words[is_over_gate:]
+    if not shutil.which(refusals.COMPILER):
+        print(f"skipped the refusal of allocations of live runs: there is no {refusals.COMPILER}")
         return
     with tempfile.TemporaryDirectory() as folder:
-        measure(build(folder, "drives", LIBRARIES, PROGRAM, PROOFS))
+        program = words[0] if words else build(Path(folder), is_over_gate)
+        judge(program, refusals.build(folder))
 
 
 if __name__ == "__main__":
-    main()
+    main(sys.argv[1:])

@@ -1,10 +1,11 @@
 //! The numbers of those who send datagrams to a socket that listens.
 ghost use Rattle.std.specs.Prelude.{◌≡◌, ◌≢◌, ◌%◌, ◌<◌, ℕ, IsTrue, IfSome, IfNone};
 ghost use Rattle.std.specs.declared.net.socket_addr.SocketAddr.{SocketAddr};
-ghost use Rattle.css_net.specs.Senders.{Means, IsNumbered};
+ghost use Rattle.css_devices.specs.Senders.{Means, IsNumbered};
 
 use crate::sender::Sender;
-use css_devices::FIRST_SENDER;
+use crate::tally::FIRST_SENDER;
+use std::marker::Model;
 use std::net::SocketAddr;
 
 /// How many senders are remembered. The answer to a request goes out before the next is taken.
@@ -12,7 +13,7 @@ const MOST_SENDERS: usize = 64;
 
 /// Those who sent datagrams to a socket that listens. A number means one address until it is forgotten.
 #[derive(Drop)]
-pub(crate) struct Senders {
+pub struct Senders {
     /// The sender with the number n stands at n % 64, in the place of the one with n - 64.
     list: [Option<Sender>; MOST_SENDERS],
     /// The number of the next sender that isn't remembered. This one and those above mean nobody.
@@ -32,9 +33,20 @@ fn is_same(one: SocketAddr, other: SocketAddr) -> bool
     one == other
 }
 
+impl Model for Senders {
+    ghost use Rattle.css_devices.specs.Senders.{Remembered};
+
+    ghost Value = { Remembered };
+
+    ghost view = { λ senders. record { list = senders.list; next = senders.next } };
+}
+
 impl Senders {
     /// Nobody sent anything.
-    pub(crate) fn new() -> Senders {
+    pub fn new() -> Senders
+        ensures nobody { (peer : ℕ) → (known : SocketAddr) → ¬ Means result peer known }
+        ensures first { result.next ≡ 2147483648 }
+    {
         Senders {
             list: [None; MOST_SENDERS],
             next: FIRST_SENDER,
@@ -42,9 +54,9 @@ impl Senders {
     }
 
     /// The address that a number means, if it means one.
-    pub(crate) fn address_of(&self, peer: u32) -> Option<SocketAddr>
-        ensures means { IfSome result (Means self.now.list self.now.next peer) }
-        ensures nobody { IfNone result ((known : SocketAddr) → ¬ Means self.now.list self.now.next peer known) }
+    pub fn address_of(&self, peer: u32) -> Option<SocketAddr>
+        ensures means { IfSome result (Means self.now peer) }
+        ensures nobody { IfNone result ((known : SocketAddr) → ¬ Means self.now peer known) }
     {
         if peer >= self.next {
             return None;
@@ -57,7 +69,7 @@ impl Senders {
     }
 
     fn is_of(&self, peer: u32, address: SocketAddr) -> bool
-        ensures { IsTrue result → Means self.now.list self.now.next peer address }
+        ensures { IsTrue result → Means self.now peer address }
     {
         match self.address_of(peer) {
             Some(known) => is_same(known, address),
@@ -67,7 +79,7 @@ impl Senders {
 
     /// The number of a sender that is remembered.
     fn known(&self, address: SocketAddr) -> Option<u32>
-        ensures { IfSome result (λ peer. Means self.now.list self.now.next peer address) }
+        ensures { IfSome result (λ peer. Means self.now peer address) }
     {
         for sender in self.list.iter().flatten() {
             if self.is_of(sender.peer, address) {
@@ -79,7 +91,7 @@ impl Senders {
 
     /// Gives a sender the next number. After the greatest comes the first.
     fn add(&mut self, address: SocketAddr) -> u32
-        ensures { IsNumbered self.old.list self.old.next self.new.list self.new.next address result }
+        ensures { IsNumbered self.old self.new address result }
     {
         let peer = if self.next < u32::MAX {
             self.next
@@ -92,8 +104,8 @@ impl Senders {
     }
 
     /// The number of a sender: its own, or the next where it isn't remembered. The oldest one makes room.
-    pub(crate) fn peer_of(&mut self, address: SocketAddr) -> u32
-        ensures { IsNumbered self.old.list self.old.next self.new.list self.new.next address result }
+    pub fn peer_of(&mut self, address: SocketAddr) -> u32
+        ensures numbered { IsNumbered self.old self.new address result }
     {
         match self.known(address) {
             Some(peer) => peer,
