@@ -27,7 +27,7 @@ def without_kit(room, program=None):
     """A copy of ./css with what it calls and nothing to build, and the environment of a machine without the kit. This
     program counts there as the proved one."""
     top, words = room / "top", room / "commands"
-    for name in ("docs", "tools", "examples"):
+    for name in ("docs", "tools", "examples", "javascript"):
         shutil.copytree(TOP / name, top / name, ignore=shutil.ignore_patterns("__pycache__"))
     for name in ("css", "crates.txt"):
         shutil.copy2(TOP / name, top / name)

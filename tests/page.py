@@ -206,7 +206,7 @@ def take_picture(browser, port, path):
     browser.look(1000, 880)
     browser.open(page.url)
     page.feed(*SAVED.read_text(encoding="ascii").splitlines())
-    browser.until("watch.report")
+    browser.until("television.report")
     time.sleep(0.6)
     browser.picture(path)
     page.end()

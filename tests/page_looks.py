@@ -96,7 +96,7 @@ def one_time(check, browser, port):
     browser.open(page.url)
     for ticks, count in (((180_000, 180_000), 1), ((180_001, 180_001), 1), ((180_010, 180_099), 1),
                          ((180_010, 180_100), 2), ((-45, 30), 1), ((-90, 90), 2)):
-        rate = "{ perSecond: 90000n, perTick: 1n }"
+        rate = "{ unitsPerSecond: 90000n, unitsPerTick: 1n }"
         shown = browser.tell(f"timesOf({ticks[0]}n, {ticks[1]}n, {rate}).join(' to ')")
         check(f"ticks {ticks[0]} to {ticks[1]} are {shown}",
               shown == times(ticks, RATE) and len(shown.split(" to ")) == count, times(ticks, RATE))

@@ -227,7 +227,8 @@ def installed(check, port):
                                capture_output=True, check=False, timeout=60)
         check("without its page it says so, with status 1",
               alone.returncode == 1 and b"page.html" in alone.stderr and b"Traceback" not in alone.stderr, alone.stderr)
-        shutil.copy(TOOL.with_name("page.html"), data)
+        for file in (TOOL.with_name("page.html"), TOOL.parent.parent / "javascript" / "css-lines" / "css-lines.js"):
+            shutil.copy(file, data.parent)
         (top / "css-page").symlink_to(program)
         for tool in (program, top / "css-page"):
             page = Page(port, tool=tool)

@@ -33,7 +33,7 @@ def long_ago(check, browser, port):
     page = Page(port)
     page.feed(*made, *[report] * 21000)
     browser.open(page.url)
-    browser.until("watch.report")
+    browser.until("television.report")
     browser.settled()
     seen, lines = browser.seen(), [json.loads(line) for line in made]
     check("a page that is opened later has a position", right_position({**seen, "lines": len(lines)}, lines)
@@ -140,7 +140,7 @@ def by_token(check, browser, port):
     page.feed(*made)
     for url in (page.url, page.url.rstrip("/")):
         browser.open(url)
-        shown = browser.until(f"kept.lines === {len(made)} && watch.report")
+        shown = browser.until(f"kept.lines === {len(made)} && television.report")
         check("by its token the page shows the lines", shown, url.partition(str(port))[2])
     page.end()
     check("and says that the program is gone", browser.word("No connection to the program of this page"))

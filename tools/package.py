@@ -65,14 +65,15 @@ def version():
 
 
 def scripts():
-    """The scripts that are installed, those that they import, and the page."""
+    """The scripts that are installed, those that they import, and the page with its module."""
     found = [name for name in COMMANDS if (TOOLS / name).is_file()]
     for name in found:
         for node in ast.walk(ast.parse((TOOLS / name).read_text())):
             modules = [node.module] if isinstance(node, ast.ImportFrom) else []
             modules += [each.name for each in node.names] if isinstance(node, ast.Import) else []
             found += [f"{it}.py" for it in modules if (TOOLS / f"{it}.py").is_file() and f"{it}.py" not in found]
-    return [TOOLS / name for name in found] + sorted(TOOLS.glob("*.html"))
+    page = [*sorted(TOOLS.glob("*.html")), TOP / "javascript" / "css-lines" / "css-lines.js"]
+    return [TOOLS / name for name in found] + page
 
 
 def contents(program):

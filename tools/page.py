@@ -129,11 +129,18 @@ def hold(older, kind, number, line):
         older[kind] = number, line
 
 
-def page_file():
-    """The page: beside this program in a checkout, and in ../share/css where it is installed."""
+def file_of(name):
+    """A file of the page: beside this program or in its own folder of a checkout, else in ../share/css."""
     folder = pathlib.Path(__file__).resolve().parent
-    beside = folder / "page.html"
-    return beside if beside.is_file() else folder.parent / "share" / "css" / "page.html"
+    places = [folder, folder.parent / "javascript" / "css-lines", folder.parent / "share" / "css"]
+    return next((place / name for place in places if (place / name).is_file()), places[-1] / name)
+
+
+def page_text():
+    """The page, with the module that tells where the television is, as a part of its script."""
+    page, module = (file_of(name).read_text(encoding="utf-8") for name in ("page.html", "css-lines.js"))
+    place = "// tools/page.py puts the module css-lines here.\n"
+    return page.replace(place, re.sub("^export ", "", module, flags=re.M), 1)
 
 
 def document(options):
@@ -141,7 +148,7 @@ def document(options):
     told = {"local-error": options.local_error, "local-precision": options.local_precision,
             "selector": options.selector, "cii": options.cii, "names": json.dumps(dict(options.name))}
     data = " ".join(f'data-{name}="{html.escape(str(value))}"' for name, value in told.items())
-    page = page_file().read_text(encoding="utf-8").replace("<body>", f"<body {data}>", 1)
+    page = page_text().replace("<body>", f"<body {data}>", 1)
     policy = "default-src 'none'; connect-src 'self'; img-src data:; base-uri 'none'; frame-ancestors 'none'"
     for name in ("script", "style"):
         inner = re.search(f"<{name}>(.*?)</{name}>", page, re.S)[1]
