@@ -1,10 +1,12 @@
 """What follows a television is tried with: one with loss and delay, that of css, and whether what is said is true."""
 import pathlib
+import socket
 import subprocess
 import sys
 import threading
 
 sys.path.insert(0, str(pathlib.Path(__file__).resolve().parent.parent / "tools"))
+from live_edge import wait_for
 from television import RATE, SECOND, Set, tick_at
 
 DELAY = 0.06
@@ -67,6 +69,15 @@ class Late(Set):
         return self.wall(reading)
 
 
+def is_heard(port):
+    """Whether somebody listens on a port of this machine."""
+    try:
+        socket.create_connection(("127.0.0.1", port)).close()
+        return True
+    except OSError:
+        return False
+
+
 class OfCss:
     """The television of css, whose wall clock is the machine's."""
 
@@ -76,6 +87,7 @@ class OfCss:
         self.child = subprocess.Popen([*css, *words], stdin=subprocess.PIPE)
         self.child.stdin.write(SCRIPT.encode())
         self.child.stdin.close()
+        wait_for(lambda: is_heard(port), 60)
 
     def go(self, reports):
         pass

@@ -226,7 +226,7 @@ class Companion:
         data = in_bytes(text)
         self._call(LIBRARY.css_companion_cii, data, len(data))
 
-    def property(self, which: Property) -> Optional[str]:
+    def field(self, which: Property) -> Optional[str]:
         """A property of the content's state; None where it is null or wasn't told."""
         return self._text_or_none(LIBRARY.css_companion_cii_field, Property(which))
 

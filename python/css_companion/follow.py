@@ -2,7 +2,7 @@
 from __future__ import annotations
 
 import asyncio
-from typing import Any, AsyncIterator, Coroutine, NamedTuple, Optional
+from typing import Any, AsyncIterator, Awaitable, Callable, NamedTuple, Optional
 from urllib.parse import urlsplit
 
 from .clock import MachineClock
@@ -63,7 +63,7 @@ class Visit:
         self.companion = Companion(clock=self.clock, **words)
         self.told = asyncio.Event()
         self.over: asyncio.Future[str] = asyncio.get_running_loop().create_future()
-        self.tasks = [asyncio.create_task(self.serve(service)) for service in (self.cii(), self.ts(), self.wc())]
+        self.tasks = [asyncio.create_task(self.serve(service)) for service in (self.cii, self.ts, self.wc)]
 
     async def end(self) -> None:
         """Hangs up."""
@@ -74,10 +74,10 @@ class Visit:
         if not self.over.cancel():
             self.over.exception()
 
-    async def serve(self, service: Coroutine[Any, Any, None]) -> None:
+    async def serve(self, service: Callable[[], Awaitable[None]]) -> None:
         """Where a service ends the visit does."""
         try:
-            await service
+            await service()
         except (Ended, TextRefused) as why:
             self.ended(str(why))
         except Exception as fault:
@@ -177,7 +177,7 @@ class Visit:
 
     async def property(self, which: Property) -> str:
         """A property, once the television has told it."""
-        while (found := self.companion.property(which)) is None:
+        while (found := self.companion.field(which)) is None:
             self.told.clear()
             await self.told.wait()
         return found
