@@ -27,7 +27,7 @@ import build
 PROGRAM = TOP / "crates" / "css" / "out" / "css"
 DOCS = (["docs/check.py"], ["docs/claims.py"], ["docs/sizes.py"], ["docs/trusted.py", "--check"])
 # What a script is told besides.
-WORDS = {"tests/drives.py": ["--over-gate"], "tests/library.py": ["--over-gate"]}
+WORDS = dict.fromkeys(["tests/drives.py", "tests/library.py", "tests/python.py"], ["--over-gate"])
 # The sessions of the pages have ports that somebody else may have.
 IN_OWN_NETWORK = {"docs/check.py"}
 LIMIT = 1800  # Only what hangs takes so many seconds.

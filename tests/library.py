@@ -10,14 +10,16 @@ libraries that `rt ci` left. What runs, side by side, and under valgrind where t
 - each allocation refused in turn;
 - random calls, under the address sanitizer instead;
 - the header in C++, and for an ARM machine;
-- each call once more, by the library of the Debian package;
-- the tests of the Rust package;
+- each call once more, by the library of the Debian package, and by the shared object, which exports these calls alone;
+- on ARM, which qemu plays: each call, the random calls, which tell the same there, and examples/follow;
+- the tests of the Rust package, there too;
 - examples/follow and examples/player. They follow a television on loopback that is paused and sought, and whose TS
   session is closed and opened again: one by hand, or that of css where CSS, or $CSS, is a command that runs it.
 
 A machine that lacks valgrind, cargo or a compiler is told what was skipped. The status is 0 where all is well.
 """
 import os
+import re
 import shutil
 import socket
 import subprocess
@@ -43,6 +45,8 @@ REPORTS = "60"
 WORDS = [REPORTS, "30"]
 WRAPPED = "-Wl,--wrap=malloc,--wrap=realloc,--wrap=free"
 ARM, ARM_HEADER = "aarch64-linux-gnu-gcc", "/usr/aarch64-linux-gnu/include/time.h"
+ARM_TARGET = "aarch64-unknown-linux-gnu"
+EMULATED = ["qemu-aarch64", "-L", "/usr/aarch64-linux-gnu"]
 WARNINGS = ["-Wall", "-Wextra", "-Werror"]
 # What the television shows: nanoseconds from its start, and what happens then.
 SCRIPT = [
@@ -104,8 +108,8 @@ class Television(live_server.Server):
 
 
 class Suite:
-    def __init__(self, library, room):
-        self.library, self.room, self.check = library, room, Checks()
+    def __init__(self, library, room, over):
+        self.library, self.room, self.over, self.check = library, room, over, Checks()
         self.port = ports()
         # the runner of cargo's tests leaves blocks of its own, to which something still points
         memcheck = ["valgrind", "-q", "--leak-check=full", "--error-exitcode=9", "--errors-for-leak-kinds=definite"]
@@ -119,19 +123,21 @@ class Suite:
         return is_there
 
     def run(self, what, command, **more):
-        """Runs a program, and tells whether it ended well."""
+        """Runs a program, and tells whether it ended well. What it wrote."""
         done = subprocess.run(
             command, stdout=subprocess.PIPE, stderr=subprocess.STDOUT, text=True, timeout=600, check=False, **more
         )
         if done.returncode:
             print(done.stdout[-3000:])
         self.check(what, done.returncode == 0)
+        return done.stdout
 
-    def built(self, sources, *flags):
-        """A program of these sources, linked with the library."""
-        program = self.room / sources[0].stem
-        command = ["gcc", "-O1", "-g", *WARNINGS, *flags, f"-I{self.library}/include", "-o", program, *sources]
-        subprocess.run([*command, f"-L{self.library}/lib", "-lcss_companion"], check=True)
+    def built(self, sources, *flags, compiler="gcc", library=None):
+        """A program of these sources, linked with the library, or with this one."""
+        library = library or self.library
+        program = self.room / f"{sources[0].stem}-{compiler}-{len(flags)}"
+        command = [compiler, "-O1", "-g", *WARNINGS, *flags, f"-I{library}/include", "-o", program, *sources]
+        subprocess.run([*command, f"-L{library}/lib", "-lcss_companion"], check=True)
         return program
 
     def in_c(self):
@@ -155,9 +161,68 @@ class Suite:
         subprocess.run(command, check=True)
         self.run("each call and each misuse, by the Debian package", [program])
 
+    def by_shared(self, compiler, library):
+        """A program that goes by the shared object."""
+        program = self.room / f"by_shared-{compiler}"
+        subprocess.run([compiler, *WARNINGS, f"-I{library}/include", "-o", program, TESTS / "exchange.c",
+                        library / "lib" / "libcss_companion.so.1"], check=True)
+        return program
+
+    def shared(self):
+        """The shared object has its name and exports the header's calls; so does the archive."""
+        header = (self.library / "include" / "css_companion.h").read_text()
+        calls = sorted(re.findall(r"^(?!static)\w[\w ]*\**(css_\w+)\(", header, re.M))
+        shared, archive = self.library / "lib" / "libcss_companion.so.1", self.library / "lib" / "libcss_companion.a"
+        program = self.by_shared("gcc", self.library)
+        paths = {**os.environ, "LD_LIBRARY_PATH": str(shared.parent)}
+        self.run("each call and each misuse, by the shared object", [program], env=paths)
+        if not self.has("readelf", "what the shared object exports"):
+            return
+        for file, kind in ((shared, "--dyn-syms"), (archive, "--syms")):
+            told = subprocess.run(["readelf", "-W", kind, file], capture_output=True, text=True, check=True).stdout
+            rows = [row.split() for row in told.splitlines() if re.match(r" +[0-9]+: ", row)]
+            open_ones = [row[7].partition("@")[0] for row in rows if row[4] in ("GLOBAL", "WEAK") and
+                         row[5] == "DEFAULT" and row[6] not in ("UND", "ABS")]
+            self.check(f"{file.name} exports the header's calls alone", sorted(open_ones) == calls, len(open_ones))
+        told = subprocess.run(["readelf", "-d", shared], capture_output=True, text=True, check=True).stdout
+        self.check("the shared object has its name", "soname: [libcss_companion.so.1]" in told)
+
     def at_random(self):
         checked = self.built([TESTS / "random.c"], "-fsanitize=address,undefined")
         self.run(f"{RANDOM_CALLS} random calls", [checked, "1", RANDOM_CALLS])
+
+    def on_arm(self, css):
+        """What an ARM machine makes of the library for it."""
+        what = "the library on ARM"
+        if not all(self.has(it, what) for it in (ARM, ARM_HEADER, EMULATED[0])):
+            return
+        library = self.room / "arm"
+        subprocess.run([TOP / "tools" / "library.py", *self.over, "--target", ARM_TARGET, library], check=True)
+        on_arm = {"compiler": ARM, "library": library}
+        self.run("each call and each misuse, on ARM", [*EMULATED, self.built([TESTS / "exchange.c"], **on_arm)])
+        paths = ["-E", f"LD_LIBRARY_PATH={library}/lib"]
+        self.run("and by the shared object", [*EMULATED, *paths, self.by_shared(ARM, library)])
+        told = self.run(f"{RANDOM_CALLS} random calls, on ARM",
+                        [*EMULATED, self.built([TESTS / "random.c"], **on_arm), "1", RANDOM_CALLS])
+        here = subprocess.run([self.built([TESTS / "random.c"]), "1", RANDOM_CALLS], capture_output=True, text=True,
+                              check=True).stdout
+        self.check("they tell the same as on this machine", told == here and here, here.strip())
+        follow = self.built([EXAMPLES / "follow" / "follow.c", EXAMPLES / "follow" / "session.c"], **on_arm)
+        self.with_television(css, self.port + 4, f"{REPORTS} reports, on ARM",
+                             lambda url: [*EMULATED, follow, url, *WORDS])
+        self.rust_on_arm(library)
+
+    def rust_on_arm(self, library):
+        folder = subprocess.run(["rustc", "--print", "target-libdir", "--target", ARM_TARGET], capture_output=True,
+                                text=True, check=False).stdout.strip() if shutil.which("rustc") else ""
+        if not os.path.isdir(folder):
+            self.check.skip("the Rust package on ARM", f"there is no standard library of Rust for {ARM_TARGET}")
+            return
+        ran = self.cargo(["test", "--target", ARM_TARGET], TOP / "rust" / "css-companion")
+        name = ARM_TARGET.upper().replace("-", "_")
+        more = {"CSS_COMPANION_DIR": library, f"CARGO_TARGET_{name}_LINKER": ARM,
+                f"CARGO_TARGET_{name}_RUNNER": " ".join(EMULATED)}
+        self.run("the Rust package's tests, on ARM", ran["args"], cwd=ran["cwd"], env={**ran["env"], **more})
 
     def cargo(self, words, folder):
         """A command of cargo, and the folder and environment that it runs in."""
@@ -194,7 +259,8 @@ class Suite:
 
     def all(self, css):
         """Makes all of these side by side."""
-        parts = [(self.in_c,), (self.packaged,), (self.at_random,), (self.application_in_c, css)]
+        parts = [(self.in_c,), (self.packaged,), (self.shared,), (self.at_random,), (self.application_in_c, css),
+                 (self.on_arm, css)]
         if self.has("cargo", "the Rust package and its application"):
             parts += [(self.in_rust,), (self.application_in_rust, css)]
         threads = [threading.Thread(target=self.guarded, args=part) for part in parts]
@@ -220,7 +286,7 @@ def main(words):
             print("skipped the library: there is no gcc")
             return 0
         subprocess.run([TOP / "tools" / "library.py", *over, library], check=True)
-        suite = Suite(library, Path(room))
+        suite = Suite(library, Path(room), over)
         suite.all(words or ([os.environ["CSS"]] if os.environ.get("CSS") else []))
         return suite.check.end()
 

@@ -1,23 +1,33 @@
 #!/usr/bin/env python3
-"""Puts the library for companion applications into a folder: one archive, its header, a pkg-config file and the Rust
-package.
+"""Puts the library for companion applications into a folder: an archive, a shared object, their header, a pkg-config
+file, and the packages for Rust and Python.
 
-    tools/library.py DIR                proves css_companion_c and the crates below it, where they are old
-    tools/library.py --over-gate DIR    proves css_companion_c alone, over the libraries that `rt ci` left
+    tools/library.py [--target TARGET] DIR          proves css_companion_c and the crates below it, where they are old
+    tools/library.py --over-gate [--target T] DIR   proves css_companion_c alone, over the libraries that `rt ci` left
 
-DIR/include/css_companion.h, DIR/lib/libcss_companion.a, DIR/lib/pkgconfig/css_companion.pc, DIR/rust/css-companion
+TARGET is x86_64-unknown-linux-gnu, where nothing else is said, or aarch64-unknown-linux-gnu. What was proved for a
+target is kept, and isn't proved again while its sources are the same.
+
+DIR/include/css_companion.h, DIR/lib/libcss_companion.a, DIR/lib/libcss_companion.so.1,
+DIR/lib/pkgconfig/css_companion.pc, DIR/rust/css-companion, DIR/python/css_companion
 """
+import argparse
 import os
+import re
 import shutil
 import subprocess
 import sys
 import tempfile
 from pathlib import Path
 
-from build import TOP, Prover, alone
+from build import LIBRARIES, TOP, Prover, alone
 
 NAME = "css_companion_c"
 VERSION = "1.0"
+SONAME = "libcss_companion.so.1"
+HEADER = TOP / "crates" / NAME / "include" / "css_companion.h"
+# How ld.lld names each target.
+TARGETS = {"x86_64-unknown-linux-gnu": "elf_x86_64", "aarch64-unknown-linux-gnu": "aarch64linux"}
 
 
 class OverGate(Prover):
@@ -37,14 +47,64 @@ class OverGate(Prover):
         return crate != self.top
 
 
-def joined(archives, target):
-    """One archive of all members of these."""
-    with tempfile.TemporaryDirectory() as room:
-        made = Path(room) / "made.a"
-        script = [f"create {made}", *(f"addlib {archive}" for archive in archives), "save", "end"]
-        subprocess.run(["ar", "-M"], input="\n".join(script) + "\n", text=True, check=True)
-        target.parent.mkdir(parents=True, exist_ok=True)
-        shutil.copyfile(made, target)
+def proved(room, kind, target):
+    """The archive of the proved code, and the folder of the kit."""
+    made = Path(room) / f"lib{NAME}.a"
+    prover = kind(room, NAME, ["src/lib.rt", "--crate-type=staticlib", f"--target={target}"], made)
+    kept = LIBRARIES / f"{NAME}-{target}.a"
+    of_kept = kept.with_suffix(".sum")
+    if not (kept.is_file() and of_kept.is_file() and of_kept.read_text() == prover.sum(NAME)):
+        below = "" if kind is OverGate else f" and the {len(prover.crates) - 1} crates below it"
+        print(f"css: proving the library{below}", file=sys.stderr, flush=True)
+        prover.prove()
+        of_kept.unlink(missing_ok=True)
+        LIBRARIES.mkdir(parents=True, exist_ok=True)
+        shutil.copyfile(made, kept)
+        of_kept.write_text(prover.sum(NAME))
+    return kept, prover.kit
+
+
+class Linker:
+    """The kit's own tools, for a target."""
+
+    def __init__(self, room, kit, target):
+        self.room, self.tools, self.target = Path(room), kit / "toolchain" / "bin", target
+
+    def compiled(self, source):
+        made = self.room / f"{source.stem}.o"
+        words = ["-O2", "-fPIC", "-ffreestanding", "-Wall", "-Wextra", "-Werror", "-c", source, "-o", made]
+        self.run("clang", f"--target={self.target}", *words)
+        return made
+
+    def linked(self, made, *words):
+        self.run("ld.lld", "-m", TARGETS[self.target], "-o", made, *words)
+        return made
+
+    def run(self, tool, *words):
+        subprocess.run([self.tools / tool, *words], check=True)
+
+    def archive(self, code, made):
+        """All of it is one object, in which the heap's functions are hidden."""
+        whole = self.linked(self.room / "css_companion.o", "-r", "--whole-archive", code,
+                            self.compiled(TOP / "tools" / "heap.c"))
+        made.parent.mkdir(parents=True, exist_ok=True)
+        made.unlink(missing_ok=True)
+        self.run("llvm-ar", "rcsD", made, whole)
+        return whole
+
+    def shared(self, whole, made):
+        """A shared object that exports the header's calls and nothing else. It names the C library and the compiler's;
+        empty ones stand for these, so that no other tools are needed."""
+        calls = re.findall(r"^(?!static)\w[\w ]*\**(css_\w+)\(", HEADER.read_text(), re.M)
+        script = self.room / "exports"
+        script.write_text(f"CSS_COMPANION_1 {{ global: {' '.join(f'{call};' for call in calls)} local: *; }};\n")
+        empty = self.room / "empty.c"
+        empty.write_text("")
+        needs = [self.linked(self.room / name, "-shared", "-soname", name, self.compiled(empty))
+                 for name in ("libc.so.6", "libgcc_s.so.1")]
+        self.linked(made, "-shared", "-soname", SONAME, "--version-script", script, "--gc-sections", "--strip-all",
+                    "-z", "relro", "-z", "now", "-z", "noexecstack", "--build-id=sha1", whole, *needs)
+        made.chmod(0o755)
 
 
 def package(folder):
@@ -61,27 +121,29 @@ Libs: -L${{prefix}}/lib -lcss_companion
     target.write_text(text)
 
 
+def options_of(words):
+    parser = argparse.ArgumentParser(prog="tools/library.py", description=__doc__,
+                                     formatter_class=argparse.RawDescriptionHelpFormatter)
+    parser.add_argument("folder", metavar="DIR", type=Path)
+    parser.add_argument("--over-gate", action="store_true")
+    parser.add_argument("--target", choices=sorted(TARGETS), default="x86_64-unknown-linux-gnu")
+    return parser.parse_args(words)
+
+
 def main(words):
-    is_over_gate = words[:1] == ["--over-gate"]
-    words = words[is_over_gate:]
-    if len(words) != 1 or words[0].startswith("-"):
-        print(__doc__)
-        return 0 if words == ["--help"] else 2
-    folder = Path(os.path.abspath(words[0]))
+    options = options_of(words)
+    folder = Path(os.path.abspath(options.folder))
     with alone(), tempfile.TemporaryDirectory(prefix="css-room-") as room:
-        archive = Path(room) / f"lib{NAME}.a"
-        kind = OverGate if is_over_gate else Prover
-        prover = kind(room, NAME, ["src/lib.rt", "--crate-type=staticlib"], archive)
-        below = "" if is_over_gate else f" and the {len(prover.crates) - 1} crates below it"
-        print(f"css: proving the library{below}", file=sys.stderr, flush=True)
-        prover.prove()
-        joined([archive, prover.kit / "c" / "liblibc_c.a"], folder / "lib" / "libcss_companion.a")
+        code, kit = proved(room, OverGate if options.over_gate else Prover, options.target)
+        linker = Linker(room, kit, options.target)
+        whole = linker.archive(code, folder / "lib" / "libcss_companion.a")
+        linker.shared(whole, folder / "lib" / SONAME)
     (folder / "include").mkdir(parents=True, exist_ok=True)
-    shutil.copy(TOP / "crates" / NAME / "include" / "css_companion.h", folder / "include")
+    shutil.copy(HEADER, folder / "include")
     package(folder)
-    package_of_rust = Path("rust") / "css-companion"
-    skipped = shutil.ignore_patterns("target")
-    shutil.copytree(TOP / package_of_rust, folder / package_of_rust, ignore=skipped, dirs_exist_ok=True)
+    for place in (Path("rust") / "css-companion", Path("python")):
+        skipped = shutil.ignore_patterns("target", "__pycache__", "*.egg-info", "build")
+        shutil.copytree(TOP / place, folder / place, ignore=skipped, dirs_exist_ok=True)
     print(f"the library is in {folder}")
     return 0
 

@@ -1,4 +1,5 @@
-/* Random calls with random bytes: none may read or write outside, and what is told is in order.  random SEED CALLS */
+/* Random calls with random bytes: none may read or write outside, and what is told is in order.  random SEED CALLS
+ * The number that it prints at the end goes by all codes and positions, so it is the same on each machine. */
 #include "css_companion.h"
 #include <stdio.h>
 #include <stdlib.h>
@@ -13,7 +14,11 @@ static uint32_t draw(void) {
     return state >> 16;
 }
 
-static uint64_t draw_long(void) { return (uint64_t)draw() << 32 | draw(); }
+/* One draw a statement: else each compiler may order them otherwise. */
+static uint64_t draw_long(void) {
+    uint64_t high = draw();
+    return high << 32 | draw();
+}
 
 static const char *parts[] = {
     "{",
@@ -50,9 +55,10 @@ static uint8_t *drawn_text(size_t *len) {
         *len += strlen(part);
     }
     if (draw() % 4 == 0) {
+        int content = draw(), speed = (int)(draw() % 5) - 2;
         *len = snprintf(text, sizeof text,
-                        "{\"contentTime\":\"%d\",\"timelineSpeedMultiplier\":%d,\"wallClockTime\":\"%u\"}", (int)draw(),
-                        (int)(draw() % 5) - 2, draw());
+                        "{\"contentTime\":\"%d\",\"timelineSpeedMultiplier\":%d,\"wallClockTime\":\"%u\"}", content,
+                        speed, draw());
     }
     uint8_t *exact = malloc(*len);
     memcpy(exact, text, *len);
@@ -66,14 +72,19 @@ static uint32_t land(css_companion *c, const uint8_t *request, uint64_t reading)
     in[2] = 0xe0 + draw() % 8;
     for (int k = 16; k < 32; k++) in[k] = k < 20 || k % 4 < 2 ? 0 : draw();
     in[19] = in[27] = draw() % 3;
-    if (draw() % 3 == 0) in[draw() % 32] = draw();
+    uint32_t place = draw() % 32;
+    if (draw() % 3 == 0) in[place] = draw();
     return css_companion_land(c, in, draw() % 9 ? 32 : draw() % 32, reading);
 }
 
 static uint32_t put(css_companion *c, uint64_t reading, int *bad) {
     size_t room = draw() % 200, used = 0;
     uint8_t *out = malloc(room);
-    css_bound a = {(int64_t)draw_long() >> (draw() % 64), draw(), draw() & 1}, b = a;
+    int64_t content = draw_long();
+    content >>= draw() % 64;
+    css_bound a = {content, draw(), false}, b;
+    a.infinite = draw() & 1;
+    b = a;
     uint32_t code;
     css_rate rate;
     switch (draw() % 6) {
@@ -122,7 +133,8 @@ static uint32_t lead(css_companion *c, uint64_t reading, int *bad) {
 
 /* it is narrow enough at the last reading, and not by a nanosecond more at the next */
 static uint32_t until(css_companion *c, int *bad) {
-    uint64_t width = draw_long() >> (draw() % 64), last;
+    uint64_t width = draw_long(), last;
+    width >>= draw() % 64;
     css_span wall;
     uint32_t code = css_companion_until(c, width, &last);
     if (code) return code;
@@ -135,7 +147,10 @@ static uint32_t until(css_companion *c, int *bad) {
 static uint32_t copied(css_companion *c, uint64_t reading, int *bad) {
     css_snapshot copy, drawn;
     css_position p, q;
-    for (size_t k = 0; k < sizeof drawn; k++) ((uint8_t *)&drawn)[k] = draw() >> (draw() % 32);
+    for (size_t k = 0; k < sizeof drawn; k++) {
+        uint32_t bits = draw();
+        ((uint8_t *)&drawn)[k] = bits >> (draw() % 32);
+    }
     *bad |= css_snapshot_position(&drawn, draw_long(), &p) >= 64;
     uint32_t code = css_companion_snapshot(c, &copy);
     if (code) return code;
@@ -143,7 +158,8 @@ static uint32_t copied(css_companion *c, uint64_t reading, int *bad) {
     *bad |= code != css_snapshot_position(&copy, reading, &q);
     if (!code) *bad |= p.lo != q.lo || p.hi != q.hi;
     copy.count = draw() % 6;
-    ((uint8_t *)&copy)[draw() % sizeof copy] = draw();
+    uint32_t place = draw() % sizeof copy;
+    ((uint8_t *)&copy)[place] = draw();
     *bad |= css_snapshot_position(&copy, reading, &q) >= 64;
     return code;
 }
@@ -152,14 +168,15 @@ static uint32_t call(css_companion *c, uint64_t reading, uint8_t *request, int *
     size_t len;
     uint8_t *text = drawn_text(&len);
     css_span wall;
-    uint32_t code = 0;
+    uint32_t code = 0, error;
     switch (draw() % 20) {
     case 0:
         if (draw() % 50 == 0) css_companion_free(c);
         break;
     case 1:
         if (draw() % 8) break;
-        code = css_companion_new(c, (const uint8_t *)"urn:dvb:css:timeline:pts", 24, text, len, draw() % 2700000,
+        error = draw() % 2700000;
+        code = css_companion_new(c, (const uint8_t *)"urn:dvb:css:timeline:pts", 24, text, len, error,
                                  draw() % 1100000000);
         break;
     case 2:
@@ -194,13 +211,18 @@ int main(int argc, char **argv) {
     state = strtoull(argv[1], NULL, 10) * 2654435761u + 1;
     css_companion c = CSS_NONE;
     uint8_t request[32] = {0};
-    uint64_t now = 0;
+    uint64_t now = 0, told = 0;
+    css_position p = {0, 0, 0, 0, 0, 0, 0};
     for (long i = 0, calls = atol(argv[2]); i < calls; i++) {
         int bad = 0;
         now += draw() % 1000000;
         uint32_t code = call(&c, draw() % 20 ? now : draw_long(), request, &bad);
         if (bad || code >= 64) return printf("call %ld: %u\n", i, code), 1;
+        css_companion_position(&c, now, &p);
+        uint64_t seen[] = {code, (uint64_t)p.lo, (uint64_t)p.hi, request[15]};
+        for (int k = 0; k < 4; k++) told = (told ^ seen[k]) * 1099511628211u;
     }
     css_companion_free(&c);
+    printf("%llu\n", (unsigned long long)told);
     return 0;
 }
