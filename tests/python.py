@@ -104,8 +104,8 @@ def exchange():
         at = it.snapshot if it.age else None
         check("no snapshot without a timestamp", raises(css.Cause, at))
     told = json.loads(css.presentation(css.Bound(5, 7), css.Bound(9)))
-    check("a presentation", told["earliest"]["contentTime"] == "5" and told["latest"]["wallClockTime"] == "plusinfinity",
-          told)
+    check("a presentation", told["earliest"]["contentTime"] == "5" and
+          told["latest"]["wallClockTime"] == "plusinfinity", told)
 
 
 def wrong_types():
@@ -324,7 +324,8 @@ async def followed(tv, name):
         if place.position is None:
             continue
         known, now = known + 1, place.position
-        control = {"contentTime": str(now.content), "timelineSpeedMultiplier": now.speed, "wallClockTime": str(now.wall)}
+        control = {"contentTime": str(now.content), "timelineSpeedMultiplier": now.speed,
+                   "wallClockTime": str(now.wall)}
         rate = {"unitsPerSecond": now.units_per_second, "unitsPerTick": now.units_per_tick}
         if not is_true(tv, (now.lo, now.hi), control, rate, now.reading, now.reading):
             wrong.append(now)

@@ -1,5 +1,5 @@
-// Where a television is, by the lines of `css watch`, between their reports too. docs/GUIDE.md shows how it is used, and
-// css-lines.d.ts has its types. What may pass 2^53 is a BigInt. Errors are in 1/256 ppm, and times in nanoseconds.
+// Where a television is, by the lines of `css watch`, between their reports too. css-lines.d.ts has its types, and
+// docs/GUIDE.md how it is used. What may pass 2^53 is a BigInt. Errors are in 1/256 ppm, and times in nanoseconds.
 
 /** A whole one, in 1/256 ppm. */
 const F = 256_000_000n;
@@ -92,8 +92,8 @@ export class Television {
     return this.rate ? null : "NoRate";
   }
 
-  /** Where it is at a reading of the watch's clock, or from the first to the second of two; null where that isn't known.
-   * A reading before that of the last report counts as that. */
+  /** Where it is at a reading of the watch's clock, or from the first to the second of two; null where that isn't
+   * known. A reading before that of the last report counts as that. */
   position(reading) {
     if (this.cause !== null) return null;
     const readings = [reading].flat().map((each) => this.#notBefore(BigInt(each)));
