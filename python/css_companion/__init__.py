@@ -5,11 +5,12 @@ the calls of css_companion.h, for a loop with sockets of your own. docs/PYTHON.m
 """
 from .clock import Clock, MachineClock
 from .companion import Bound, Companion, Position, Property, Readings, Snapshot, Span, Timeline, presentation
-from .faults import Cause, CompanionError, Closed, Early, Fault, OutOfMemory, OutOfRange, Refused, TextRefused
+from .faults import (BeginAnew, Cause, Closed, CompanionError, Disagree, Early, Fault, OutOfMemory, OutOfRange, Refused,
+                     TextRefused)
 from .follow import Place, follow
 
 __all__ = [
-    "Bound", "Cause", "Clock", "Closed", "Companion", "CompanionError", "Early", "Fault", "MachineClock", "OutOfMemory",
-    "OutOfRange", "Place", "Position", "Property", "Readings", "Refused", "Snapshot", "Span", "TextRefused", "Timeline",
-    "follow", "presentation",
+    "BeginAnew", "Bound", "Cause", "Clock", "Closed", "Companion", "CompanionError", "Disagree", "Early", "Fault",
+    "MachineClock", "OutOfMemory", "OutOfRange", "Place", "Position", "Property", "Readings", "Refused", "Snapshot",
+    "Span", "TextRefused", "Timeline", "follow", "presentation",
 ]

@@ -6,6 +6,7 @@ import os
 from ctypes import POINTER, Structure, c_bool, c_char_p, c_int32, c_int64, c_size_t, c_uint32, c_uint64, c_void_p
 from pathlib import Path
 
+# The least version of the header that it goes with, and the name of the shared object.
 VERSION, NAME = 1, "libcss_companion.so.1"
 
 
@@ -62,7 +63,7 @@ CALLS = {
     "css_companion_report": [COMPANION, c_uint64, c_uint64, *ROOM],
     "css_companion_words": [c_uint32, *ROOM],
 }
-# Those that an older library of the same version lacks.
+# Those that an older library lacks.
 LATER = {
     "css_companion_agreed": [COMPANION, c_uint64, POINTER(SpanOfC)],
     "css_companion_fault": [COMPANION, *ROOM],
@@ -78,11 +79,11 @@ def place() -> str:
 
 
 def load() -> ctypes.CDLL:
-    """The library with the types of its calls. OSError where there is none, or it is one of another version."""
+    """The library with the types of its calls. OSError where there is none, or it is too old."""
     library = ctypes.CDLL(place())
     library.css_companion_version.restype = c_uint32
-    if (found := library.css_companion_version()) != VERSION:
-        raise OSError(f"{place()} has version {found}, and this package is for version {VERSION}")
+    if (found := library.css_companion_version()) < VERSION:
+        raise OSError(f"{place()} has version {found}, and this package is for version {VERSION} and later")
     for name, types in {**CALLS, **LATER}.items():
         if name in CALLS or hasattr(library, name):
             call = getattr(library, name)

@@ -195,8 +195,8 @@ class Companion:
 
     def land(self, datagram: Union[bytes, bytearray, memoryview], reading: Optional[int] = None
              ) -> Optional[faults.Refused]:
-        """Takes in a datagram. None where it is accepted, else why it is refused; read on then. TextRefused where the
-        television contradicts itself by it: begin with a new companion."""
+        """Takes in a datagram. None where it is accepted, else why it is refused; read on then. It raises Disagree
+        where the television contradicts itself by it: no call has an answer then, until `slept`."""
         data = bytes(memoryview(datagram))
         with self._lock:
             at = self._reading(reading)

@@ -38,8 +38,16 @@ class Refused(CompanionError):
     """A datagram was refused. That is nobody's mistake here: read on."""
 
 
-class TextRefused(CompanionError):
-    """The television said what can't be, or contradicts itself: hang up, and begin with a new companion."""
+class BeginAnew(CompanionError):
+    """Hang up, and begin with a new companion."""
+
+
+class TextRefused(BeginAnew):
+    """The television said what can't be, or moves an address."""
+
+
+class Disagree(BeginAnew):
+    """Its answers contradict each other: it was started anew, or its clock was set."""
 
 
 class Cause(CompanionError):
@@ -47,17 +55,16 @@ class Cause(CompanionError):
 
 
 MEMORY, RANGE, EARLY, CLOSED, NO_ROOM, TOO_WIDE, NOT_UTF8 = range(1, 8)
-NULL, NEVER = 54, 55
+DISAGREE, NULL, NEVER = 36, 54, 55
 
 KINDS = {MEMORY: OutOfMemory, RANGE: OutOfRange, EARLY: Early, CLOSED: Closed, TOO_WIDE: OutOfRange,
-         NOT_UTF8: OutOfRange}
+         NOT_UTF8: OutOfRange, DISAGREE: Disagree}
 
 
 def kind_of(code: int) -> type[CompanionError]:
     """The exception of a code: one of the header's four groups."""
-    if code < 16:
-        return KINDS.get(code, Fault)
-    return Refused if code < 32 else TextRefused if code < 48 else Cause
+    of_group = Fault if code < 16 else Refused if code < 32 else TextRefused if code < 48 else Cause
+    return KINDS.get(code, of_group)
 
 
 def check(code: int, word: Callable[[int], str]) -> None:

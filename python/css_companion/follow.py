@@ -7,7 +7,7 @@ from urllib.parse import urlsplit
 
 from .clock import MachineClock
 from .companion import PTS, Companion, Position, Property
-from .faults import Cause, OutOfRange, TextRefused
+from .faults import BeginAnew, Cause, OutOfRange
 
 try:
     import websockets
@@ -78,7 +78,7 @@ class Visit:
         """Where a service ends the visit does."""
         try:
             await service()
-        except (Ended, TextRefused) as why:
+        except (Ended, BeginAnew) as why:
             self.ended(str(why))
         except Exception as fault:
             if not self.over.done():
@@ -93,7 +93,7 @@ class Visit:
         try:
             position = self.companion.position()
             return Place(position.reading, position, None, number)
-        except (Cause, TextRefused, OutOfRange) as cause:
+        except (Cause, BeginAnew, OutOfRange) as cause:
             return self.nowhere(str(cause), number)
 
     def nowhere(self, cause: str, number: int) -> Place:
@@ -165,14 +165,14 @@ class Visit:
     def until(self) -> Optional[int]:
         try:
             return self.companion.until(self.width)
-        except (Cause, TextRefused):
+        except (Cause, BeginAnew):
             return None
 
     def land(self, data: bytes) -> None:
         """An answer by which the television contradicts itself ends the visit. Others may send datagrams too."""
         try:
             self.companion.land(data)
-        except TextRefused as why:
+        except BeginAnew as why:
             self.ended(str(why))
 
     async def property(self, which: Property) -> str:
