@@ -25,7 +25,10 @@
  * control, presentation and report, and by land for the first response of a declared error and for one that promises
  * a follow-up. All others take none, and never answer CSS_MEMORY.
  *
- * It was tried on x86-64 Linux with glibc, from C11, C++17 and Rust.
+ * It was tried on Linux with glibc: on x86-64 from C11, C++17, Rust and Python, and on ARM of 64 bits from C11. All that
+ * it needs of a system is memcpy, memmove, memset, malloc, realloc and free of the C library, and __udivti3 of the
+ * compiler. So on Android, or over another C library, link the archive with the compiler of that system. The shared
+ * object asks for libc.so.6 and libgcc_s.so.1 by name.
  */
 #ifndef CSS_COMPANION_H
 #define CSS_COMPANION_H
@@ -42,7 +45,10 @@ extern "C" {
 #define CSS_ASSERT(is, words) _Static_assert(is, words)
 #endif
 
-/* The version of this page. css_companion_version() tells that of the library: compare them at the start. */
+/* The version of this page. css_companion_version() tells that of the library: see at the start that it isn't below this
+ * one. Within a number nothing of this page changes. A higher one has further calls and codes, and leaves all others as
+ * they were; a code that you don't know says by its group what to do. Where that can't be so, the shared object has
+ * another number in its name. */
 #define CSS_VERSION 1
 
 /* A companion, or none. 24 bytes in your memory; what it points to is the library's. */
