@@ -360,6 +360,27 @@ async def dials_again(tv):
     check("it dials again, and is right again", not wrong and visit >= 3 and "CII closed" in ends, wrong or ends[:4])
 
 
+async def bad_addresses(tv):
+    """One that the caller gives is the caller's mistake; one of the television ends a visit."""
+    try:
+        async for place in css.follow("http://127.0.0.1/cii", every=0.01):
+            told = place.visit
+            if told > 1:
+                break
+    except Exception as fault:
+        told = type(fault).__name__
+    check("a wrong address is the caller's mistake", told == "InvalidURI", told)
+    tv.instead, causes = {"tsUrl": "http://127.0.0.1/"}, []
+    places = css.follow(tv.cii, every=0.02)
+    async for place in places:
+        causes.append(place.cause or "")
+        if causes[-1].startswith("tsUrl"):
+            break
+    await places.aclose()
+    tv.end()
+    check("a wrong one of the television ends a visit", causes[-1] == "tsUrl is no address: http://127.0.0.1/")
+
+
 def live(words):
     port = ports()
     television = Set(port + 8)
@@ -372,6 +393,7 @@ def live(words):
     late = Late(port + 4)
     late.loss = 0
     asyncio.run(dials_again(late))
+    asyncio.run(bad_addresses(Late(port + 20)))
     if words:
         asyncio.run(followed(OfCss(words, port + 16), "css tv"))
     else:

@@ -5,8 +5,8 @@ file, and the packages for Rust and Python.
     tools/library.py [--target TARGET] DIR          proves css_companion_c and the crates below it, where they are old
     tools/library.py --over-gate [--target T] DIR   proves css_companion_c alone, over the libraries that `rt ci` left
 
-TARGET is x86_64-unknown-linux-gnu, where nothing else is said, or aarch64-unknown-linux-gnu. What was proved for a
-target is kept, and isn't proved again while its sources are the same.
+TARGET is x86_64-unknown-linux-gnu, where nothing else is said, or aarch64-unknown-linux-gnu. What was proved is kept in
+crates/css/out/libraries: while the sources are the same it isn't proved again for that target.
 
 DIR/include/css_companion.h, DIR/lib/libcss_companion.a, DIR/lib/libcss_companion.so.1,
 DIR/lib/pkgconfig/css_companion.pc, DIR/rust/css-companion, DIR/python/css_companion
@@ -49,8 +49,11 @@ class OverGate(Prover):
 
 def proved(room, kind, target):
     """The archive of the proved code, and the folder of the kit."""
-    made = Path(room) / f"lib{NAME}.a"
-    prover = kind(room, NAME, ["src/lib.rt", "--crate-type=staticlib", f"--target={target}"], made)
+    made, words = Path(room) / f"lib{NAME}.a", ["src/lib.rt", "--crate-type=staticlib", f"--target={target}"]
+    if kind is OverGate:
+        # the tests build for each target: what is checked for one isn't checked again for the next
+        words += ["--incremental", LIBRARIES / f"{NAME}.checked"]
+    prover = kind(room, NAME, words, made)
     kept = LIBRARIES / f"{NAME}-{target}.a"
     of_kept = kept.with_suffix(".sum")
     if not (kept.is_file() and of_kept.is_file() and of_kept.read_text() == prover.sum(NAME)):

@@ -107,6 +107,8 @@ class Visit:
                 async for text in texts:
                     self.companion.cii(text)
                     self.told.set()
+        except websockets.InvalidURI:
+            raise
         except failures() as why:
             raise Ended(f"CII failed: {why or type(why).__name__}") from None
         raise Ended("CII closed")
@@ -120,6 +122,8 @@ class Visit:
                     await texts.send(self.companion.setup())
                     async for text in texts:
                         self.companion.control(text)
+            except websockets.InvalidURI:
+                raise Ended(f"tsUrl is no address: {url[:80]}") from None
             except failures():
                 pass
             self.companion.ts_closed()
@@ -188,7 +192,8 @@ async def follow(url: str, *, every: float = 0.1, width: int = 5_000_000, select
     """Where the television at this CII address is: a place each `every` seconds, until the loop that reads it ends.
 
     It asks as often as keeps the interval about `width` nanoseconds wide, once a second at most. Where a session
-    closes or the television contradicts itself it dials again. It needs the package websockets.
+    closes or the television contradicts itself it dials again. It needs the package websockets, whose InvalidURI it
+    raises where the address is none.
     """
     if websockets is None:
         raise ImportError("follow needs the package websockets, as Debian's python3-websockets")
