@@ -207,6 +207,18 @@ def what_it_adds():
     check("before the first line no reading is known", told[0][1] == {"position": None, "readings": None}, told[0])
 
 
+# ---- types
+
+def types():
+    """What is written with the types is taken by TypeScript's compiler."""
+    if not shutil.which("tsc"):
+        check.skip("the types of css-lines", "there is no tsc")
+        return
+    words = ["--strict", "--noEmit", "--target", "es2022", "--moduleResolution", "node", HARNESS / "types.ts"]
+    done = subprocess.run(["tsc", *words], capture_output=True, text=True, timeout=300, check=False)
+    check("TypeScript takes the types", done.returncode == 0, done.stdout[:500])
+
+
 # ---- live
 
 def followed(check, words, tv, name):
@@ -240,7 +252,7 @@ def main(words):
     if not shutil.which("node"):
         check.skip("javascript/css-lines", "there is no node")
         return check.end()
-    for each in (cut_anywhere, begun_again, unreadable, past_2_53, events, by_stream, what_it_adds):
+    for each in (cut_anywhere, begun_again, unreadable, past_2_53, events, by_stream, what_it_adds, types):
         each()
     words, port = program(words), ports()
     Beside([(followed, words, Late(port), "a television with loss and delay"),

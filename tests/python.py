@@ -15,6 +15,7 @@ import asyncio
 import importlib.util
 import json
 import os
+import shutil
 import subprocess
 import sys
 import tempfile
@@ -253,6 +254,15 @@ def imports(room):
     check("without websockets the calls are there", said[2] == 1 and "needs the package websockets" in said[1])
 
 
+def types():
+    if not shutil.which("mypy"):
+        check.skip("the package's types", "there is no mypy")
+        return
+    words = ["mypy", "--strict", "--cache-dir", os.devnull, PACKAGE / "css_companion"]
+    done = subprocess.run(words, capture_output=True, text=True, timeout=300, check=False)
+    check("mypy takes the package's types", done.returncode == 0, done.stdout.strip()[-500:])
+
+
 # How a program leaves `follow` while that waits.
 LEAVES = {
     "breaks": "async for place in follow(URL, every=0.01):\n    break",
@@ -430,6 +440,7 @@ def main(words):
         for each in (exchange, wrong_types, closed, threads, sleeps, later_calls):
             each()
         imports(Path(room))
+        types()
         if importlib.util.find_spec("websockets"):
             live(words or ([os.environ["CSS"]] if os.environ.get("CSS") else []))
         else:

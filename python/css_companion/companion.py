@@ -268,7 +268,7 @@ class Companion:
     def age(self) -> int:
         """It rises where something came by which an answer may be another one."""
         with self._lock:
-            return LIBRARY.css_companion_age(byref(self._handle))
+            return int(LIBRARY.css_companion_age(byref(self._handle)))
 
     def position(self, reading: Optional[int] = None) -> Position:
         """The ticks that the television may be presenting. Where there are none, Cause says why."""
@@ -369,6 +369,7 @@ class Companion:
 
 def later(name: str) -> Callable[..., int]:
     """A call that an older library lacks."""
-    if not hasattr(LIBRARY, name):
+    call: Optional[Callable[..., int]] = getattr(LIBRARY, name, None)
+    if call is None:
         raise NotImplementedError(f"the library has no {name} yet")
-    return getattr(LIBRARY, name)
+    return call

@@ -2,13 +2,14 @@
 from __future__ import annotations
 
 import asyncio
-from typing import Any, AsyncIterator, Awaitable, Callable, NamedTuple, Optional
+from typing import Any, AsyncGenerator, Awaitable, Callable, NamedTuple, Optional
 from urllib.parse import urlsplit
 
 from .clock import MachineClock
 from .companion import PTS, Companion, Position, Property
 from .faults import BeginAnew, Cause, OutOfRange
 
+websockets: Any
 try:
     import websockets
 except ImportError:
@@ -145,15 +146,15 @@ class Visit:
     async def dialled(self, url: str) -> asyncio.DatagramTransport:
         """A socket of the wall clock, once its host has an address."""
         try:
-            address = urlsplit(url).hostname, urlsplit(url).port
+            host, port = urlsplit(url).hostname, urlsplit(url).port
         except ValueError:
-            address = None, None
-        if None in address:
+            host = port = None
+        if host is None or port is None:
             raise Ended(f"wcUrl is no address: {url[:80]}")
+        loop = asyncio.get_running_loop()
         while True:
             try:
-                loop = asyncio.get_running_loop()
-                return (await loop.create_datagram_endpoint(lambda: Datagrams(self), remote_addr=address))[0]
+                return (await loop.create_datagram_endpoint(lambda: Datagrams(self), remote_addr=(host, port)))[0]
             except OSError:
                 await asyncio.sleep(PAUSE)
 
@@ -188,7 +189,7 @@ class Visit:
 
 
 async def follow(url: str, *, every: float = 0.1, width: int = 5_000_000, selector: str = PTS, stem: str = "",
-                 error: int = 128_000, precision: int = 1000) -> AsyncIterator[Place]:
+                 error: int = 128_000, precision: int = 1000) -> AsyncGenerator[Place, None]:
     """Where the television at this CII address is: a place each `every` seconds, until the loop that reads it ends.
 
     It asks as often as keeps the interval about `width` nanoseconds wide, once a second at most. Where a session
