@@ -5,4 +5,5 @@ pub mod Readings
 pub mod Responses
 pub mod ReadBack
 mod Agreeing
+mod Begins
 pub mod TwoHops

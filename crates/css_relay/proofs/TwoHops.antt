@@ -19,7 +19,8 @@ use Rattle.css_num.specs.Spans.{Interval}
 use Rattle.css_span.specs.Frontiers.{greatest_error}
 use Rattle.css_span.specs.WallSpans.{span_of, wall_span}
 use Rattle.css_client.specs.Standing.{SpanHolds}
-use Rattle.css_companion.specs.Standing.{Companion, StandsFor, own_of}
+use Rattle.css_companion.specs.Standing.{Companion, own_of}
+use Rattle.css_relay.specs.Relays.{StandsFor}
 use Rattle.css_relay.specs.Answers.{Ticket, requested_by, received_after, answered, answered_after, Responds}
 use Rattle.css_relay.specs.TwoHops.{IsTrueResponse, IsAnswerOf, AnswersAreTrue, TrueIsTruthful}
 use Rattle.css_relay.specs.TwoHops.{IsRelayed, RelayedAt, TwoHopsAreTrue, TicketIsTrue, AnswerIsTrue, IsTrueDatagram}

@@ -9,8 +9,9 @@ use Rattle.css_model.specs.World.{World, Errors, IsWorldFor, IsInRange}
 use Rattle.css_model.specs.History.{Entry, Clock, History, Each, Once, LandedAnswer, landed_answer, landed_answers}
 use Rattle.css_model.specs.History.{is_possible}
 use Rattle.css_model.specs.Explains.{IsLawful, WasAsked, IsTruthful, HappensIn, Explains, ContainsAt}
-use Rattle.css_companion.specs.Standing.{Companion, StandsFor, own_of}
+use Rattle.css_companion.specs.Standing.{Companion, own_of}
 use Rattle.css_relay.specs.Answers.{Ticket, received_after, answered_after}
+use Rattle.css_relay.specs.Relays.{StandsFor}
 use Rattle.css_relay.specs.declared.fault.RelayFault.{RelayFault}
 
 -- ---- of one call

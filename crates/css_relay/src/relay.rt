@@ -13,9 +13,9 @@ ghost use Rattle.css_client.specs.Landings.{judged_of, landing_of, IsRefusal};
 ghost use Rattle.css_client.specs.Standing.{AcceptsTheTruth, ContainsTheWall};
 ghost use Rattle.css_cii.specs.Texts.{IsUtf8State};
 ghost use Rattle.css_companion.specs.Contents.{CarriesNoMemory};
-ghost use Rattle.css_companion.specs.Meanings.{state_of};
-ghost use Rattle.css_companion.specs.Standing.{StandsFor, own_of, asleep, wanted_by};
+ghost use Rattle.css_companion.specs.Standing.{own_of, asleep, wanted_by};
 ghost use Rattle.css_companion.specs.Steps as steps;
+ghost use Rattle.css_companion.specs.declared.binding.Binding.TheVariants.{WallClock};
 ghost use Rattle.css_companion.specs.declared.fault.CompanionFault.TheVariants as faults;
 ghost use Rattle.css_relay.specs.Agreeing.{Agrees, Compares, Holds};
 ghost use Rattle.css_agree.specs.Disagreements.{IsPossibleAt};
@@ -24,7 +24,7 @@ ghost use Rattle.css_relay.specs.Answers.{requested_by, ticket_at, received_afte
 ghost use Rattle.css_relay.specs.Answers.{unless_wide, datagram_of, Responds};
 ghost use Rattle.css_relay.specs.Lending.{LendsCompanion};
 ghost use Rattle.css_relay.specs.Middles.{middle_known};
-ghost use Rattle.css_relay.specs.Relays.{wc_url_of, relayed_state};
+ghost use Rattle.css_relay.specs.Relays.{StandsFor, state_of, wc_url_of, relayed_state};
 ghost use Rattle.css_relay.specs.TwoHops.{TicketIsTrue, AnswerIsTrue};
 
 use crate::address::wc_url;
@@ -35,7 +35,7 @@ use crate::ticket::RelayTicket;
 use css_agree::{Agree, AgreeFault};
 use css_cii::State;
 use css_client::Landing;
-use css_companion::{Companion, CompanionConfig, CompanionEvent, CompanionFault};
+use css_companion::{Binding, Companion, CompanionConfig, CompanionEvent, CompanionFault};
 use css_model::{LIMIT, Message, Stamp};
 use css_num::{Memory, Span, Text};
 use css_span::{Answer, Local};
@@ -81,6 +81,7 @@ impl Model for Relay {
 
 impl Relay {
     /// A relay that was told nothing yet, and serves the wall clock at this host and port.
+    #[tactic(auto, using(crate::proofs::Begins::begins))]
     pub fn new(
         alloc: Global,
         config: CompanionConfig,
@@ -210,12 +211,14 @@ impl Relay {
         self.companion.wall(reading)
     }
 
-    /// Takes in what happened at the sessions with the television: [`Companion::step`].
+    /// Takes in what happened at the sessions with the television: [`Companion::step_under`]. Of the two addresses the
+    /// wall clock's alone binds a relay, since it opens no CSS-TS: a text that moves `tsUrl` is taken like any other.
     pub fn step(&mut self, event: CompanionEvent) -> Result<Option<Text>, CompanionFault>
         requires { steps.IsEvent event }
-        ensures answer { GivesBy (λ owed. owed) faults.Memory result (steps.owed self.old.companion event) }
+        ensures answer { GivesBy (λ owed. owed) faults.Memory result
+            (steps.owed_under WallClock self.old.companion event) }
         ensures goes_on { steps.GoesOn result self.old.companion self.new.companion
-            (steps.stepped self.old.companion event) }
+            (steps.stepped_under WallClock self.old.companion event) }
         ensures fault { IfErr result CarriesNoMemory }
         ensures wc_url { self.new.wc_url ≡ self.old.wc_url }
         ensures client { self.new.companion.client ≡ self.old.companion.client }
@@ -224,7 +227,7 @@ impl Relay {
             → steps.IsEntryOf event entry history
             → steps.UnlessMemory result (StandsFor self.new.companion (entry ∷ history)) }
     {
-        self.companion.step(event)
+        self.companion.step_under(Binding::WallClock, event)
     }
 
     /// The state that the television told, with the television's own addresses: [`Companion::state`].

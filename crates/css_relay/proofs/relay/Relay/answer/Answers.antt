@@ -2,9 +2,9 @@
 use Rattle.std.proofs.Common.{◌≡◌, ◌∙◌, ap, sym, subst}
 use Rattle.std.specs.Prelude.{Result, IfOk}
 use Rattle.css_model.specs.declared.Message.{Message}
-use Rattle.css_companion.specs.Standing.{Companion, StandsFor, own_of}
+use Rattle.css_companion.specs.Standing.{Companion, own_of}
 use Rattle.css_relay.specs.Answers.{answered, answered_after, datagram_of, Responds}
-use Rattle.css_relay.specs.Relays.{Relay}
+use Rattle.css_relay.specs.Relays.{Relay, StandsFor}
 use Rattle.css_relay.specs.declared.fault.RelayFault.{RelayFault}
 use Rattle.css_relay.proofs.TwoHops.{answer_is, datagram_is_true}
 use Rattle.css_relay.proofs.relay.Relay.answer.Goals as goal
@@ -19,7 +19,7 @@ returns-clause-value c = λ history stands.
     (subst (λ (r : Relay). answered c.wall.result c.greatest_error.result c.args.ticket
     ≡ answered_after (own_of r.companion) history c.args.reading c.args.ticket) c.self.view_is
     (answer_is companion history c.args.reading c.args.ticket c.wall.result c.greatest_error.result
-    (c.wall.ensures.span history s) (c.greatest_error.ensures.accepted history s)))
+    (c.wall.ensures.span _ history s) (c.greatest_error.ensures.accepted _ history s)))
 
 pub returns-clause-is_true : goal.returns-clause-is_true
 returns-clause-is_true c =
@@ -31,5 +31,5 @@ returns-clause-is_true c =
     (subst (λ (r : Relay). answered c.wall.result c.greatest_error.result c.args.ticket
     ≡ answered_after (own_of r.companion) history c.args.reading c.args.ticket) c.self.view_is
     (answer_is companion history c.args.reading c.args.ticket c.wall.result c.greatest_error.result
-    (c.wall.ensures.span history s) (c.greatest_error.ensures.accepted history s)))
+    (c.wall.ensures.span _ history s) (c.greatest_error.ensures.accepted _ history s)))
     c.respond.ensures.read_back)

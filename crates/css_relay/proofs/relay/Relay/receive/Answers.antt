@@ -6,10 +6,10 @@ use Rattle.css_model.specs.declared.Stamp.{Stamp}
 use Rattle.css_model.specs.History.{accepted_answers}
 use Rattle.css_model.specs.Wire.{decoded}
 use Rattle.css_span.specs.WallSpans.{wall_span}
-use Rattle.css_companion.specs.Standing.{Companion, StandsFor, own_of}
+use Rattle.css_companion.specs.Standing.{Companion, own_of}
 use Rattle.css_relay.specs.Answers.{requested_by, ticket_at, ticket_by, received_after}
 use Rattle.css_relay.specs.Middles.{middle_known}
-use Rattle.css_relay.specs.Relays.{Relay}
+use Rattle.css_relay.specs.Relays.{Relay, StandsFor}
 use Rattle.css_relay.specs.declared.fault.RelayFault.{RelayFault}
 use Rattle.css_relay.proofs.TwoHops.{ticket_is_true}
 use Rattle.css_relay.proofs.relay.Relay.receive.Goals as goal
@@ -26,7 +26,7 @@ returns-clause-value c = λ history stands.
     c.ticket.result ≡ received_after (own_of r.companion) history c.args.reading c.args.bytes.now) c.self.view_is
     (c.ticket.ensures.value
     ∙ ap (λ (o : Option Interval). ticket_at c.in_ok-originate.originate (middle_known o))
-    (c.wall.ensures.span history s)
+    (c.wall.ensures.span _ history s)
     ∙ sym (ap (λ (r : Result Stamp RelayFault). ticket_by wall r) asked))
 
 pub returns-clause-reads : goal.returns-clause-reads
