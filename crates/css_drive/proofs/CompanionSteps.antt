@@ -17,10 +17,10 @@ use Rattle.css_companion.specs.Standing.{Companion}
 use Rattle.css_companion.specs.declared.config.CompanionConfig.{CompanionConfig}
 use Rattle.css_drive.specs.CompanionDue.{due, dial_to, place, from_cii, from_wc, from_ts, from_ask, from_take}
 use Rattle.css_drive.specs.CompanionDue.{from_ts_text, from_end, unless_refused, refusal_of}
-use Rattle.css_drive.specs.CompanionStanding.{Shown, facts_of, KnowsPeers, Stands, Knows, Comes, Stops, IsFault}
+use Rattle.css_drive.specs.CompanionStanding.{Shown, facts_of, KnowsPeers, Stands, Knows, KnowsUnder, Comes, Stops}
 use Rattle.css_drive.specs.CompanionStanding.{IsEndBy, IsSo, Fails, Adds, HasDialled, dial_entries, GivesPlace}
 use Rattle.css_drive.specs.CompanionStanding.{asked_after, IsRefusal, HasRead, Goes, IsDue, TakesIn, from_text}
-use Rattle.css_drive.specs.CompanionStanding.{after_text, kind_for, open_of}
+use Rattle.css_drive.specs.CompanionStanding.{after_text, kind_for, open_of, IsFault}
 use Rattle.css_drive.specs.CompanionTurns.{dialled, dialled_by, opened, ended_by, open_after, unless, newest, is_peer}
 use Rattle.css_drive.specs.CompanionTurns.{is_kind, asked_turn, is_asking}
 use Rattle.css_drive.specs.Ends.{MayEnd, IsNetFault, CountsNetFault}
@@ -44,6 +44,8 @@ use Rattle.css_outside.specs.declared.calls.Clocked.{Clocked}
 use Rattle.css_outside.specs.declared.calls.Wrote.{Wrote as Outcome}
 use Rattle.css_outside.specs.declared.calls.Wrote.TheVariants as outcome
 use Rattle.css_companion.specs.Contents.{told}
+use Rattle.css_companion.specs.declared.binding.Binding.{Binding}
+use Rattle.css_companion.specs.declared.binding.Binding.TheVariants.{Both}
 use Rattle.css_companion.specs.Aside.{IsAside}
 use Rattle.css_companion.proofs.Telling as telling
 use Rattle.css_model.specs.declared.Stamp.{Stamp}
@@ -291,11 +293,11 @@ lawful_plain entry history l asks sends =
     }
 
 -- an entry that tells a companion nothing
-pub knows_plain : {own : CompanionConfig} {companion : Companion} (entry : Entry) {history : History}
-    → Knows own companion history → is_sleep entry ≡ false → asking_at entry ≡ None
+pub knows_plain : {binding : Binding} {own : CompanionConfig} {companion : Companion} (entry : Entry)
+    {history : History} → KnowsUnder binding own companion history → is_sleep entry ≡ false → asking_at entry ≡ None
     → request_by entry ≡ None → landed_answer entry history ≡ None → cii_text entry history ≡ None
     → ts_text entry history ≡ None → (opens_ts entry || closes_ts entry history) ≡ false
-    → Knows own companion (entry ∷ history)
+    → KnowsUnder binding own companion (entry ∷ history)
 knows_plain entry {history} k awake asks sends lands cii ts end =
     let aside : IsAside entry history = record {
       client = record { awake = awake; asks_none = asks; sends_none = sends; lands_none = lands };
@@ -306,13 +308,14 @@ knows_plain entry {history} k awake asks sends lands cii ts end =
     record { stands = telling.stands_aside _ _ entry k.stands aside; setup = k.setup; local = k.local }
 
 -- nor does a dial that fails or begins, or a session that isn't one of CSS-TS
-pub knows_dialling : {own : CompanionConfig} {companion : Companion} (k : Kind) (to : Address) {history : History}
-    → Knows own companion history → Knows own companion (Dialling k to ∷ history)
+pub knows_dialling : {binding : Binding} {own : CompanionConfig} {companion : Companion} (k : Kind) (to : Address)
+    {history : History} → KnowsUnder binding own companion history
+    → KnowsUnder binding own companion (Dialling k to ∷ history)
 knows_dialling k to knows = knows_plain (Dialling k to) knows refl refl refl refl refl refl refl
 
-pub knows_tried : {own : CompanionConfig} {companion : Companion} (k : Kind) (to : Address) (tried : Result ℕ Failure)
-    {history : History} → IfOk tried (λ p. opens_ts (Dialled k p) ≡ false) → Knows own companion history
-    → Knows own companion (dial_entries k to tried ++ history)
+pub knows_tried : {binding : Binding} {own : CompanionConfig} {companion : Companion} (k : Kind) (to : Address)
+    (tried : Result ℕ Failure) {history : History} → IfOk tried (λ p. opens_ts (Dialled k p) ≡ false)
+    → KnowsUnder binding own companion history → KnowsUnder binding own companion (dial_entries k to tried ++ history)
 knows_tried k to (Err f) other knows =
     knows_plain (NotDialled k f) (knows_dialling k to knows) refl refl refl refl refl refl refl
 knows_tried k to (Ok p) other knows =
@@ -500,7 +503,7 @@ refusal_own refusal ended r = grind (arith, r)
 pub text_goes : {T : Type 0} {config : DriveConfig} {before now : Shown} {saw : List Note → Type 0} {live : Live}
     {p : ℕ} {bytes : List ℕ} {history : History} → Stands config before now saw live (Heard p bytes ∷ history)
     → IsLawful history → (which : Session) → kind_of p history ≡ Some (kind_for which) → (over : Option OutFault)
-    → (is : Companion) (result : Result T Driven) → TakesIn config.companion which p bytes history is result
+    → (is : Companion) (result : Result T Driven) → TakesIn Both config.companion which p bytes history is result
     → Goes config before now saw over live is (λ _. IsDue config (after_text which)) result
 text_goes {config} {p = p} {bytes = bytes} {history = history} s lawful which k over is (Ok _) taken =
     comes s taken.1 _ (heard which config p bytes history k

@@ -16,10 +16,12 @@ use Rattle.css_cii.specs.declared.name.CiiName.TheVariants.{WcUrl, TsUrl}
 use Rattle.css_tsmsg.specs.Presentations.{presentation_text}
 use Rattle.css_tsmsg.specs.Setups.{setup_text}
 use Rattle.css_tsmsg.specs.declared.bound.Bound.{Bound}
-use Rattle.css_companion.specs.Contents.{next_number, told}
-use Rattle.css_companion.specs.Meanings.{kind_of, is_ts, cii_text, texts_of, state_of}
+use Rattle.css_companion.specs.Contents.{next_number, told_under}
+use Rattle.css_companion.specs.Meanings.{kind_of, is_ts, cii_text, texts_of, state_of, state_under}
 use Rattle.css_companion.specs.Standing.{wanted_by}
 use Rattle.css_companion.specs.Steps.{window}
+use Rattle.css_companion.specs.declared.binding.Binding.{Binding}
+use Rattle.css_companion.specs.declared.binding.Binding.TheVariants.{Both}
 use Rattle.css_companion.specs.declared.fault.CompanionFault.{CompanionFault}
 use Rattle.css_companion.specs.declared.fault.CompanionFault.TheVariants as fault
 use Rattle.css_drive.specs.Proper.{Due, Now, Dial, SendDatagram, TakeDatagram, TakeText, SendText, HangUp, Ends}
@@ -209,9 +211,14 @@ due_at config Over history = from_hang_ups (final config history) history
 
 -- ---- texts that are refused
 -- the fault of a text of the CII session after a history, if it is refused
+abbrev pub refusal_under : Binding → Option (List ℕ) → History → Option CompanionFault
+refusal_under binding None older = None
+refusal_under binding (Some bytes) older =
+    result_err (told_under binding (next_number (texts_of older)) (state_under binding older) bytes)
+
+-- the same where both addresses bind
 abbrev pub refusal_of : Option (List ℕ) → History → Option CompanionFault
-refusal_of None older = None
-refusal_of (Some bytes) older = result_err (told (next_number (texts_of older)) (state_of older) bytes)
+refusal_of text older = refusal_under Both text older
 
 -- the fault of the text that came last, if it is one of the CII session and is refused
 abbrev pub refusal : History → Option CompanionFault

@@ -15,7 +15,9 @@ use Rattle.css_outside.specs.declared.calls.Clocked.{Clocked}
 use Rattle.css_outside.specs.declared.calls.Wrote.{Wrote as Outcome}
 use Rattle.css_outside.specs.declared.calls.Wrote.TheVariants as outcome
 use Rattle.css_companion.specs.Meanings.{kind_of, is_cii}
-use Rattle.css_companion.specs.Standing.{Companion, StandsFor, own_of, wanted_by}
+use Rattle.css_companion.specs.Standing.{Companion, StandsUnder, own_of, wanted_by}
+use Rattle.css_companion.specs.declared.binding.Binding.{Binding}
+use Rattle.css_companion.specs.declared.binding.Binding.TheVariants.{Both}
 use Rattle.css_companion.specs.declared.config.CompanionConfig.{CompanionConfig}
 use Rattle.css_address.specs.declared.fault.AddressFault.{AddressFault}
 use Rattle.css_cii.specs.declared.name.CiiName.{CiiName}
@@ -26,7 +28,8 @@ use Rattle.css_drive.specs.CompanionTurns.{first_turn, this_turn, turns, dialled
 use Rattle.css_drive.specs.CompanionTurns.{goes_on, is_late}
 use Rattle.css_drive.specs.CompanionReports.{due_reports, KeepsPromises}
 use Rattle.css_drive.specs.CompanionDue.{due, due_at, from_hang_ups, final, end_by, IsProperRun, Point, point_of}
-use Rattle.css_drive.specs.CompanionDue.{text_sent, text_gone, from_cii_text, from_ts_text, from_end, refusal_of}
+use Rattle.css_drive.specs.CompanionDue.{text_sent, text_gone, from_cii_text, from_ts_text, from_end}
+use Rattle.css_drive.specs.CompanionDue.{refusal_under}
 use Rattle.css_drive.specs.Ends.{MayEnd, CountsNetFault}
 use Rattle.css_drive.specs.Notes.{Note, noted}
 use Rattle.css_drive.specs.Proper.{Due, Now}
@@ -99,11 +102,16 @@ pub record Stands (config : DriveConfig) (before now : Shown) (saw : List Note �
   pub peers : KnowsPeers now.counts.peers history
   pub saw_so : saw (noted config history)
 
--- the companion is the configuration's, and stands for the history
-pub record Knows (own : CompanionConfig) (companion : Companion) (history : History) : Type 0 where
-  pub stands : StandsFor companion history
+-- the companion is the configuration's, and stands for the history, where these addresses bind it
+pub record KnowsUnder (binding : Binding) (own : CompanionConfig) (companion : Companion) (history : History)
+    : Type 0 where
+  pub stands : StandsUnder binding companion history
   pub setup : companion.setup ≡ wanted_by own
   pub local : own_of companion ≡ own.local
+
+-- the same where both addresses bind
+abbrev pub Knows : CompanionConfig → Companion → History → Type 0
+Knows own companion history = KnowsUnder Both own companion history
 
 -- The run came to a history of this kind.
 pub record Comes (config : DriveConfig) (before now : Shown) (saw : List Note → Type 0) (live : Live)
@@ -263,8 +271,8 @@ pub record HasRead (old new : Shown) (before now : Live) (was is : Companion) (w
   pub last : new.counts.last ≡ clocked.reading
   pub below : clocked.reading < LIMIT
   pub floor : is.client.floor ≤ clocked.reading
-  pub known : (own : CompanionConfig) (history : History) → Knows own was history
-      → Knows own is (sleep_entries clocked.slept ++ history)
+  pub known : {binding : Binding} (own : CompanionConfig) (history : History) → KnowsUnder binding own was history
+      → KnowsUnder binding own is (sleep_entries clocked.slept ++ history)
   pub only : now ≡ record before { asked = asked_after clocked.slept before.asked }
 
 -- what is open of a session once that of a peer is over
@@ -291,11 +299,12 @@ IsRefusal None ended = ⊥
 IsRefusal (Some fault) ended = ended ≡ end_by fault
 
 -- the companion took a text of a session in, or it is refused
-abbrev pub TakesIn : {T : Type 0} → CompanionConfig → Session → ℕ → List ℕ → History → Companion → Result T Driven
-    → Type 0
-TakesIn own which peer text history is result =
-    let refusal = refusal_of (if is_cii (Some (kind_for which)) then Some text else None) history in
-    MatchResult result (λ _. (refusal ≡ None) × Knows own is (Heard peer text ∷ history)) (IsRefusal refusal)
+abbrev pub TakesIn : {T : Type 0} → Binding → CompanionConfig → Session → ℕ → List ℕ → History → Companion
+    → Result T Driven → Type 0
+TakesIn binding own which peer text history is result =
+    let refusal = refusal_under binding (if is_cii (Some (kind_for which)) then Some text else None) history in
+    MatchResult result (λ _. (refusal ≡ None) × KnowsUnder binding own is (Heard peer text ∷ history))
+    (IsRefusal refusal)
 
 -- the run hangs up the sessions that are open, to end so
 pub record Hangs (config : DriveConfig) (before now : Shown) (saw : List Note → Type 0) (live : Live) (end : Driven)

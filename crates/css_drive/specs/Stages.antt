@@ -11,6 +11,7 @@ use Rattle.css_address.specs.declared.fault.AddressFault.{AddressFault}
 use Rattle.css_cii.specs.declared.name.CiiName.{CiiName}
 use Rattle.css_companion.specs.Meanings.{kind_of, is_cii}
 use Rattle.css_companion.specs.Standing.{Companion}
+use Rattle.css_companion.specs.declared.binding.Binding.{Binding}
 use Rattle.css_companion.specs.declared.config.CompanionConfig.{CompanionConfig}
 use Rattle.css_companion.specs.declared.fault.CompanionFault.{CompanionFault}
 use Rattle.css_outside.specs.Outsides.{Counts, clock_entries, heard_entries}
@@ -18,8 +19,9 @@ use Rattle.css_outside.specs.declared.calls.Clocked.{Clocked}
 use Rattle.css_outside.specs.declared.calls.Heard.{Heard as Answer}
 use Rattle.css_outside.specs.declared.calls.Heard.TheVariants as answer
 use Rattle.css_outside.specs.declared.fault.OutFault.{OutFault}
-use Rattle.css_drive.specs.CompanionDue.{refusal_of}
-use Rattle.css_drive.specs.CompanionStanding.{Shown, shown_of, Fails, Adds, HasDialled, HasRead, IsRefusal, Knows}
+use Rattle.css_drive.specs.CompanionDue.{refusal_under}
+use Rattle.css_drive.specs.CompanionStanding.{Shown, shown_of, Fails, Adds, HasDialled, HasRead, IsRefusal}
+use Rattle.css_drive.specs.CompanionStanding.{KnowsUnder}
 use Rattle.css_drive.specs.CompanionStanding.{kind_for, without, GivesPlace}
 use Rattle.css_drive.specs.declared.companion_live.Live.{Live}
 use Rattle.css_drive.specs.declared.companion_live.Run.{Run}
@@ -78,8 +80,9 @@ pub record Reads (peer : ℕ) (old mid : At) (after : Companion) : Type 0 where
   pub read : HasRead old.shown mid.shown old.live mid.live old.companion mid.companion why.Ask clocked
   pub bytes : List ℕ
   pub request : bytes ≡ encoded (request_at clocked.reading)
-  pub known : (own : CompanionConfig) (history : History) → Knows own mid.companion history
-      → Knows own after (Sent peer bytes ∷ Clock why.Ask clocked.reading ∷ history)
+  pub known : {binding : Binding} (own : CompanionConfig) (history : History)
+      → KnowsUnder binding own mid.companion history
+      → KnowsUnder binding own after (Sent peer bytes ∷ Clock why.Ask clocked.reading ∷ history)
 
 -- and it was sent
 pub record Requests (peer : ℕ) (old new : At) : Type 0 where
@@ -105,8 +108,9 @@ pub record Lands (bytes : List ℕ) (old new : At) : Type 0 where
   pub clocked : Clocked
   pub awake : Companion
   pub read : HasRead old.shown new.shown old.live new.live old.companion awake why.Land clocked
-  pub known : (own : CompanionConfig) (peer : ℕ) (history : History) → Knows own old.companion history
-      → Knows own new.companion (clock_entries why.Land clocked ++ (Took peer bytes ∷ history))
+  pub known : {binding : Binding} (own : CompanionConfig) (peer : ℕ) (history : History)
+      → KnowsUnder binding own old.companion history
+      → KnowsUnder binding own new.companion (clock_entries why.Land clocked ++ (Took peer bytes ∷ history))
 
 -- it was not
 abbrev pub FailsLanding : Option OutFault → At → At → Driven → Type 0
@@ -126,31 +130,32 @@ is_text (answer.Text text) = true
 is_text _ = false
 
 -- the fault of a text of a session after a history, if it is refused
-abbrev pub refusal_by : Session → Answer → History → Option CompanionFault
-refusal_by which (answer.Text text) history =
-    refusal_of (if is_cii (Some (kind_for which)) then Some text else None) history
-refusal_by which _ history = None
+abbrev pub refusal_by : Binding → Session → Answer → History → Option CompanionFault
+refusal_by binding which (answer.Text text) history =
+    refusal_under binding (if is_cii (Some (kind_for which)) then Some text else None) history
+refusal_by binding which _ history = None
 
--- the session was asked, and the companion told what came
-pub record Hears (which : Session) (peer : ℕ) (said : Answer) (old new : At) : Type 0 where
+-- the session was asked, and the companion told what came, where these addresses bind it
+pub record Hears (binding : Binding) (which : Session) (peer : ℕ) (said : Answer) (old new : At) : Type 0 where
   pub called : Adds old.shown new.shown (heard_entries peer said)
   pub live : new.live ≡ with_answer peer said old.live
   pub known : (own : CompanionConfig) (history : History) → kind_of peer history ≡ Some (kind_for which)
-      → Knows own old.companion history
-      → (refusal_by which said history ≡ None) × Knows own new.companion (heard_entries peer said ++ history)
+      → KnowsUnder binding own old.companion history
+      → (refusal_by binding which said history ≡ None)
+      × KnowsUnder binding own new.companion (heard_entries peer said ++ history)
 
 -- it wasn't, or its text is refused
-abbrev pub FailsHearing : Option OutFault → Session → ℕ → At → At → Driven → Type 0
-FailsHearing over which peer old new ended = Fails old.shown new.shown over ended
+abbrev pub FailsHearing : Binding → Option OutFault → Session → ℕ → At → At → Driven → Type 0
+FailsHearing binding over which peer old new ended = Fails old.shown new.shown over ended
     ⊎ ((said : Answer) × Adds old.shown new.shown (heard_entries peer said)
     × (new.live ≡ with_answer peer said old.live)
     × ((own : CompanionConfig) (history : History)
-    → kind_of peer history ≡ Some (kind_for which) → Knows own old.companion history
-    → IsRefusal (refusal_by which said history) ended))
+    → kind_of peer history ≡ Some (kind_for which) → KnowsUnder binding own old.companion history
+    → IsRefusal (refusal_by binding which said history) ended))
 
 -- a session is asked, where it is open, and whether a text came is told
-abbrev pub HearsOnce : Option OutFault → Session → Option ℕ → At → At → Result Bool Driven → Type 0
-HearsOnce over which (Some peer) old new result =
-    MatchResult result (λ told. (said : Answer) × Hears which peer said old new × (told ≡ is_text said))
-    (FailsHearing over which peer old new)
-HearsOnce over which None old new result = MatchResult result (λ told. (told ≡ false) × (new ≡ old)) (λ _. ⊥)
+abbrev pub HearsOnce : Binding → Option OutFault → Session → Option ℕ → At → At → Result Bool Driven → Type 0
+HearsOnce binding over which (Some peer) old new result =
+    MatchResult result (λ told. (said : Answer) × Hears binding which peer said old new × (told ≡ is_text said))
+    (FailsHearing binding over which peer old new)
+HearsOnce binding over which None old new result = MatchResult result (λ told. (told ≡ false) × (new ≡ old)) (λ _. ⊥)

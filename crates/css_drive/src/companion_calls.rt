@@ -8,7 +8,7 @@ ghost use Rattle.css_companion.specs.Steps.{IsEvent, IsEntryOf};
 ghost use Rattle.css_companion.specs.declared.config.CompanionConfig.{CompanionConfig};
 ghost use Rattle.css_drive.specs.CompanionDue.{Point, due_at};
 ghost use Rattle.css_drive.specs.CompanionStanding.{Shown, shown, shown_of, IsEarly, Fails, Calls, HasDialled, HasRead};
-ghost use Rattle.css_drive.specs.CompanionStanding.{IsAt, Knows, LeadsFrom, Stays, final_end};
+ghost use Rattle.css_drive.specs.CompanionStanding.{IsAt, KnowsUnder, LeadsFrom, Stays, final_end};
 ghost use Rattle.css_drive.specs.CompanionStanding.{still, without, spoken};
 ghost use Rattle.css_drive.specs.Notes.{Note, Standpoint, Sees, dial_notes, slept_notes};
 ghost use Rattle.css_drive.specs.Proper.{SendText};
@@ -19,7 +19,7 @@ use crate::companion_live::{Live, Run};
 use crate::driven::Driven;
 use crate::observes::Observes;
 use crate::session::Session;
-use css_companion::{Companion, CompanionEvent};
+use css_companion::{Binding, Companion, CompanionEvent};
 use css_outside::{Address, Clocked, Failure, Kind, OutFault, Outside, Why, Wrote};
 
 /// How a run ends that its observer ends.
@@ -91,14 +91,19 @@ pub fn note_sleep<W: Observes>(observer: &mut W, clocked: &Clocked)
 }
 
 /// Tells the companion of its TS session, of which nothing is refused.
-pub fn tell(companion: &mut Companion, event: CompanionEvent) -> Result<(), Driven>
+pub fn tell(
+    companion: &mut Companion,
+    binding: Binding,
+    event: CompanionEvent,
+) -> Result<(), Driven>
     requires { IsEvent event }
-    ensures ok { (own : CompanionConfig) → (history : History) → (entry : Entry) → Knows own companion.old history
-        → IsEntryOf event entry history → OnOk result (Knows own companion.new (entry ∷ history)) }
+    ensures ok { (own : CompanionConfig) → (history : History) → (entry : Entry)
+        → KnowsUnder binding own companion.old history → IsEntryOf event entry history
+        → OnOk result (KnowsUnder binding own companion.new (entry ∷ history)) }
     ensures err { IfErr result (λ ended. ended ≡ Driven.Memory) }
     ensures same { companion.new.client ≡ companion.old.client }
 {
-    match companion.step(event) {
+    match companion.step_under(binding, event) {
         Ok(_) => Ok(()),
         Err(_) => Err(Driven::Memory),
     }
@@ -164,7 +169,7 @@ impl<O: Outside, W: Observes> Run<'_, O, W> {
             Wrote::Gone => {
                 self.observer.closed(Session::Ts);
                 self.live.close(peer);
-                tell(self.companion, CompanionEvent::TsClosed)?;
+                tell(self.companion, Binding::Both, CompanionEvent::TsClosed)?;
                 Ok(Wrote::Gone)
             }
         }

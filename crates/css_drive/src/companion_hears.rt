@@ -6,7 +6,7 @@ ghost use Rattle.css_companion.specs.Meanings.{kind_of};
 ghost use Rattle.css_drive.specs.CompanionDue.{due, from_ask, from_take, from_cii_text, hang_up};
 ghost use Rattle.css_drive.specs.CompanionStanding.{Shown, shown_of, Stands, Knows, Leads, Goes, Stops, Stays, Names};
 ghost use Rattle.css_drive.specs.CompanionStanding.{IsDue, IsEarly, Hangs, TakesIn, a_reading};
-ghost use Rattle.css_drive.specs.CompanionStanding.{kind_for, open_of, from_text, after_text};
+ghost use Rattle.css_drive.specs.CompanionStanding.{kind_for, open_of, from_text, after_text, KnowsUnder};
 ghost use Rattle.css_drive.specs.CompanionTurns.{is_asking};
 ghost use Rattle.css_drive.specs.Proper.{Due};
 ghost use Rattle.css_drive.specs.Stages.{AsksOnce, Lands, FailsLanding, HearsOnce, at};
@@ -21,24 +21,29 @@ use crate::driven::Driven;
 use crate::observes::Observes;
 use crate::session::Session;
 use crate::timing::is_time;
-use css_companion::{Companion, CompanionEvent};
+use css_companion::{Binding, Companion, CompanionEvent};
 use css_num::Text;
 use css_outside::{Heard, Outside, Why};
 
 /// Takes a text of a session in.
-fn take_in(companion: &mut Companion, session: Session, text: Text) -> Result<(), Driven>
+fn take_in(
+    companion: &mut Companion,
+    binding: Binding,
+    session: Session,
+    text: Text,
+) -> Result<(), Driven>
     ensures told { (own : CompanionConfig) → (peer : ℕ) → (history : History)
-        → kind_of peer history ≡ Some (kind_for session) → Knows own companion.old history
-        → TakesIn own session peer text history companion.new result }
+        → kind_of peer history ≡ Some (kind_for session) → KnowsUnder binding own companion.old history
+        → TakesIn binding own session peer text history companion.new result }
     ensures early { IfErr result IsEarly }
     ensures same { companion.new.client ≡ companion.old.client }
 {
     match session {
-        Session::Cii => match companion.step(CompanionEvent::CiiText(text)) {
+        Session::Cii => match companion.step_under(binding, CompanionEvent::CiiText(text)) {
             Ok(_) => Ok(()),
             Err(fault) => Err(refused(fault)),
         },
-        Session::Ts => match companion.step(CompanionEvent::TsText(text)) {
+        Session::Ts => match companion.step_under(binding, CompanionEvent::TsText(text)) {
             Ok(_) => Ok(()),
             Err(_) => Err(Driven::Memory),
         },
@@ -46,16 +51,16 @@ fn take_in(companion: &mut Companion, session: Session, text: Text) -> Result<()
 }
 
 /// Tells the companion that a session is over.
-fn let_go(companion: &mut Companion, session: Session) -> Result<(), Driven>
+fn let_go(companion: &mut Companion, binding: Binding, session: Session) -> Result<(), Driven>
     ensures told { (own : CompanionConfig) → (peer : ℕ) → (history : History)
-        → kind_of peer history ≡ Some (kind_for session) → Knows own companion.old history
-        → OnOk result (Knows own companion.new (Closed peer ∷ history)) }
+        → kind_of peer history ≡ Some (kind_for session) → KnowsUnder binding own companion.old history
+        → OnOk result (KnowsUnder binding own companion.new (Closed peer ∷ history)) }
     ensures err { IfErr result (λ ended. ended ≡ Driven.Memory) }
     ensures same { companion.new.client ≡ companion.old.client }
 {
     match session {
-        Session::Cii => tell(companion, CompanionEvent::CiiClosed),
-        Session::Ts => tell(companion, CompanionEvent::TsClosed),
+        Session::Cii => tell(companion, binding, CompanionEvent::CiiClosed),
+        Session::Ts => tell(companion, binding, CompanionEvent::TsClosed),
     }
 }
 
@@ -156,12 +161,12 @@ impl<O: Outside, W: Observes> Run<'_, O, W> {
         }
     }
 
-    /// Hears a session, where it is open, and tells whether a text came.
-    pub fn hear(&mut self, session: Session) -> Result<bool, Driven>
-        ensures called { HearsOnce (W.over self.new.observer.now) session (open_of session self.old.live.now)
+    /// Hears a session, where it is open, and tells whether a text came. These addresses bind the companion.
+    pub fn hear(&mut self, session: Session, binding: Binding) -> Result<bool, Driven>
+        ensures called { HearsOnce binding (W.over self.new.observer.now) session (open_of session self.old.live.now)
             (at O.told O.counts self.old) (at O.told O.counts self.new) result }
-        ensures goes { (config : Config) → Leads O.told O.counts W.saw W.over config self.old self.new
-            (from_text session) (after_text session) result }
+        ensures goes { binding ≡ Binding.Both → (config : Config) → Leads O.told O.counts W.saw W.over config
+            self.old self.new (from_text session) (after_text session) result }
         ensures stays { Stays O.counts self.old self.new result }
     {
         let Some(peer) = self.live.peer_of(session) else {
@@ -172,13 +177,13 @@ impl<O: Outside, W: Observes> Run<'_, O, W> {
             Heard::Quiet => Ok(false),
             Heard::Text(text) => {
                 self.observer.heard(session, &text, self.companion);
-                take_in(self.companion, session, text)?;
+                take_in(self.companion, binding, session, text)?;
                 Ok(true)
             }
             Heard::Closed => {
                 self.observer.closed(session);
                 self.live.close(peer);
-                let_go(self.companion, session)?;
+                let_go(self.companion, binding, session)?;
                 Ok(false)
             }
         }

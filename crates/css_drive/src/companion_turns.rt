@@ -17,7 +17,7 @@ use crate::driven::Driven;
 use crate::observes::Observes;
 use crate::session::Session;
 use crate::timing::{goes_on, is_late};
-use css_companion::Companion;
+use css_companion::{Binding, Companion};
 use css_outside::{Outside, Why};
 use std::alloc::Global;
 
@@ -112,8 +112,8 @@ impl<O: Outside, W: Observes> Run<'_, O, W> {
         self.dial_ts(config)?;
         self.ask(config.ask_every)?;
         self.take()?;
-        self.hear(Session::Cii)?;
-        self.hear(Session::Ts)?;
+        self.hear(Session::Cii, Binding::Both)?;
+        self.hear(Session::Ts, Binding::Both)?;
         Ok(())
     }
 

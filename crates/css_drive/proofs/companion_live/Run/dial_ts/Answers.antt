@@ -14,7 +14,7 @@ pub returns-clause-goes : goal.returns-clause-goes
 returns-clause-goes g c before started h s k d =
     let p : ℕ = c.in-Ok.peer in
     let gives = rw c.in-Some.is at c.in_ok-to.ensures.gives in
-    let t = calls.ts_due s d c.in-None.is _ (c.state.ensures.meaning h k.stands) _ gives in
+    let t = calls.ts_due s d c.in-None.is _ (c.state.ensures.meaning _ h k.stands) _ gives in
     let call = rw c.in-Ok.is at c.in_ok-peer.ensures in
     c.introduce.ensures.goes refl (c.in_ok-setup.ensures.text _ refl ∙ ap setup_text k.setup) before started _
     (stands_tried s kind.Ts c.in-Some.to t (Ok p) call.told (call.saw (standpoint _ (_ ∷ h)) started _ s.saw_so)
@@ -25,7 +25,7 @@ pub returns-in_err-setup-clause-goes : goal.returns-in_err-setup-clause-goes
 returns-in_err-setup-clause-goes g c before started h s k d =
     let p : ℕ = c.in-Ok.peer in
     let gives = rw c.in-Some.is at c.in_ok-to.ensures.gives in
-    let t = calls.ts_due s d c.in-None.is _ (c.state.ensures.meaning h k.stands) _ gives in
+    let t = calls.ts_due s d c.in-None.is _ (c.state.ensures.meaning _ h k.stands) _ gives in
     let call = rw c.in-Ok.is at c.in_ok-peer.ensures in
     at_err _ _ _ _ c.from_residual-in_err-setup.ensures.1
     (stops_by_memory (stands_tried s kind.Ts c.in-Some.to t (Ok p) call.told
@@ -37,7 +37,7 @@ returns-in_err-setup-clause-goes g c before started h s k d =
 pub returns-in_default-3-clause-goes : goal.returns-in_default-3-clause-goes
 returns-in_default-3-clause-goes g c before started h s k d =
     let gives = rw c.in-Some.is at c.in_ok-to.ensures.gives in
-    let t = calls.ts_due s d c.in-None.is _ (c.state.ensures.meaning h k.stands) _ gives in
+    let t = calls.ts_due s d c.in-None.is _ (c.state.ensures.meaning _ h k.stands) _ gives in
     let call = rw c.in_default-3.is at c.in_ok-peer.ensures in
     comes (stands_tried s kind.Ts c.in-Some.to t (Err _) call.told (call.saw (standpoint _ (_ ∷ h)) started _ s.saw_so)
     s.facts) (calls.knows_tried kind.Ts c.in-Some.to (Err _) tt k) _ refl
@@ -46,7 +46,7 @@ pub returns-in_err-to-clause-goes : goal.returns-in_err-to-clause-goes
 returns-in_err-to-clause-goes g c before started h s k d =
     at_err _ _ _ c.from_residual.result c.from_residual.ensures.1
     (calls.bad_stops s k.stands.client.lawful _ _ _ _ _ c.in_err-to.ensures.gives
-    (calls.ts_due s d c.in-None.is _ (c.state.ensures.meaning h k.stands) _ refl))
+    (calls.ts_due s d c.in-None.is _ (c.state.ensures.meaning _ h k.stands) _ refl))
 
 pub returns-in_err-peer-clause-goes : goal.returns-in_err-peer-clause-goes
 returns-in_err-peer-clause-goes g c before started h s k d =

@@ -8,7 +8,7 @@ use Rattle.css_drive.proofs.CompanionSteps as calls
 use Rattle.css_drive.proofs.companion_live.Run.hear.Goals as goal
 
 pub returns-in-Quiet-clause-goes : goal.returns-in-Quiet-clause-goes
-returns-in-Quiet-clause-goes g c config before started h s k d =
+returns-in-Quiet-clause-goes g c same config before started h s k d =
     let p : ℕ = c.in-Some.peer in
     let at = sym c.peer_of.ensures ∙ c.in-Some.is in
     let call = rw c.in-Quiet.is at c.in_ok-take_text.ensures.told in
@@ -17,12 +17,12 @@ returns-in-Quiet-clause-goes g c config before started h s k d =
     (calls.asked c.args.session config (Quiet p) p h (calls.open_kind s c.args.session at) refl)
 
 pub returns-in_err-take_text-clause-goes : goal.returns-in_err-take_text-clause-goes
-returns-in_err-take_text-clause-goes g c config before started h s k d =
+returns-in_err-take_text-clause-goes g c same config before started h s k d =
     failed s _ _ k c.from_residual-in_err-take_text.ensures.1
     (fails_over c.in_ok-check.ensures.on c.in_err-take_text.ensures.told) _ s.saw_so
 
 pub returns-in_ok-take_in-in-Text-clause-goes : goal.returns-in_ok-take_in-in-Text-clause-goes
-returns-in_ok-take_in-in-Text-clause-goes g c config before started h s k d =
+returns-in_ok-take_in-in-Text-clause-goes g c same config before started h s k d =
     let which = c.args.session in
     let p : ℕ = c.in-Some.peer in
     let text : List ℕ = c.in-Text.text in
@@ -31,10 +31,11 @@ returns-in_ok-take_in-in-Text-clause-goes g c config before started h s k d =
     let call = rw c.in-Text.is at c.in_ok-take_text.ensures.told in
     calls.text_goes (calls.session_said s which d at (heard.Text text) call
     (c.heard.ensures (standpoint config h) k started _ c.in_ok-check.ensures.on s.saw_so) s.facts)
-    k.stands.client.lawful which is None _ (Ok true) (c.in_ok-take_in-in-Text.ensures.told config.companion p h is k)
+    k.stands.client.lawful which is None _ (Ok true)
+    (rw same at (c.in_ok-take_in-in-Text.ensures.told config.companion p h is (rw same k)))
 
 pub returns-in_err-take_in-in-Text-clause-goes : goal.returns-in_err-take_in-in-Text-clause-goes
-returns-in_err-take_in-in-Text-clause-goes g c config before started h s k d =
+returns-in_err-take_in-in-Text-clause-goes g c same config before started h s k d =
     let which = c.args.session in
     let p : ℕ = c.in-Some.peer in
     let text : List ℕ = c.in-Text.text in
@@ -45,10 +46,10 @@ returns-in_err-take_in-in-Text-clause-goes g c config before started h s k d =
     (calls.text_goes {T = Bool} (calls.session_said s which d at (heard.Text text) call
     (c.heard.ensures (standpoint config h) k started _ c.in_ok-check.ensures.on s.saw_so) s.facts)
     k.stands.client.lawful which is _ c.take_in.new.companion (Err _)
-    (c.in_err-take_in-in-Text.ensures.told config.companion p h is k))
+    (rw same at (c.in_err-take_in-in-Text.ensures.told config.companion p h is (rw same k))))
 
 pub returns-in_ok-let_go-in-Closed-clause-goes : goal.returns-in_ok-let_go-in-Closed-clause-goes
-returns-in_ok-let_go-in-Closed-clause-goes g c config before started h s k d =
+returns-in_ok-let_go-in-Closed-clause-goes g c same config before started h s k d =
     let which = c.args.session in
     let p : ℕ = c.in-Some.peer in
     let at = sym c.peer_of.ensures ∙ c.in-Some.is in
@@ -56,11 +57,12 @@ returns-in_ok-let_go-in-Closed-clause-goes g c config before started h s k d =
     let call = rw c.in-Closed.is at c.in_ok-take_text.ensures.told in
     comes (calls.session_said s which d at heard.Closed call
     (c.closed.ensures (standpoint config h) started _ c.in_ok-check.ensures.on s.saw_so)
-    (ap (without p) s.facts ∙ sym c.close.ensures)) (c.in_ok-let_go-in-Closed.ensures.told config.companion p h is k) _
+    (ap (without p) s.facts ∙ sym c.close.ensures))
+    (rw same at (c.in_ok-let_go-in-Closed.ensures.told config.companion p h is (rw same k))) _
     (calls.asked which config (Closed p) p h is refl)
 
 pub returns-in_err-let_go-in-Closed-clause-goes : goal.returns-in_err-let_go-in-Closed-clause-goes
-returns-in_err-let_go-in-Closed-clause-goes g c config before started h s k d =
+returns-in_err-let_go-in-Closed-clause-goes g c same config before started h s k d =
     let which = c.args.session in
     let p : ℕ = c.in-Some.peer in
     let at = sym c.peer_of.ensures ∙ c.in-Some.is in
@@ -72,7 +74,7 @@ returns-in_err-let_go-in-Closed-clause-goes g c config before started h s k d =
     (calls.lawful_plain (Closed p) h k.stands.client.lawful refl refl) _ _ c.in_err-let_go-in-Closed.ensures.err)
 
 pub returns-in_err-check-clause-goes : goal.returns-in_err-check-clause-goes
-returns-in_err-check-clause-goes g c config before started h s k d =
+returns-in_err-check-clause-goes g c same config before started h s k d =
     failed s _ _ k c.from_residual.ensures.1 (c.in_err-check.ensures.unmade _) _ s.saw_so
 
 -- ---- what was called

@@ -23,7 +23,7 @@ returns-in-Ok-clause-called g c = record {
   read = c.in_ok-clocked.ensures.told;
   known = λ own p h k. rw c.if-clocked.false (
       let k2 = rw c.if-clocked.false at (c.in_ok-clocked.ensures.told.known own h k) in record {
-        stands = c.in-Ok.ensures.stands h p k2.stands;
+        stands = c.in-Ok.ensures.stands _ h p k2.stands;
         setup = ap (λ x. x.setup) c.in-Ok.ensures.keeps ∙ k2.setup;
         local = c.in-Ok.ensures.own ∙ k2.local;
       });

@@ -22,7 +22,7 @@ returns-clause-called g c = record {
     bytes = c.ask-bytes.result;
     request = c.ask-bytes.ensures.request;
     known = λ own h k. record {
-      stands = c.ask-bytes.ensures.stands h c.args.peer k.stands;
+      stands = c.ask-bytes.ensures.stands _ h c.args.peer k.stands;
       setup = ap (λ x. x.setup) c.ask-bytes.ensures.keeps ∙ k.setup;
       local = c.ask-bytes.ensures.own ∙ k.local;
     };
@@ -42,7 +42,7 @@ returns-in_err-send_datagram-clause-called g c =
         bytes = c.ask-bytes.result;
         request = c.ask-bytes.ensures.request;
         known = λ own h k. record {
-          stands = c.ask-bytes.ensures.stands h c.args.peer k.stands;
+          stands = c.ask-bytes.ensures.stands _ h c.args.peer k.stands;
           setup = ap (λ x. x.setup) c.ask-bytes.ensures.keeps ∙ k.setup;
           local = c.ask-bytes.ensures.own ∙ k.local;
         };
@@ -61,7 +61,7 @@ returns-in_err-check-clause-called g c =
         bytes = c.ask-bytes.result;
         request = c.ask-bytes.ensures.request;
         known = λ own h k. record {
-          stands = c.ask-bytes.ensures.stands h c.args.peer k.stands;
+          stands = c.ask-bytes.ensures.stands _ h c.args.peer k.stands;
           setup = ap (λ x. x.setup) c.ask-bytes.ensures.keeps ∙ k.setup;
           local = c.ask-bytes.ensures.own ∙ k.local;
         };
@@ -87,7 +87,7 @@ returns-clause-goes g c some config before started h s k d =
     (c.asked.ensures (standpoint config asked) started _ c.in_ok-check.ensures.on s1.saw_so)
     (ap {A = Live} (λ x. record x { asked = x.turn }) s1.facts))
     (record {
-      stands = c.ask-bytes.ensures.stands _ p k1.stands;
+      stands = c.ask-bytes.ensures.stands _ _ p k1.stands;
       setup = ap (λ x. x.setup) c.ask-bytes.ensures.keeps ∙ k1.setup;
       local = c.ask-bytes.ensures.own ∙ k1.local;
     }) _ refl
@@ -98,7 +98,7 @@ returns-in_err-send_datagram-clause-goes g c some config before started h s k d 
     let s1 = calls.stands_asked {after = g.W.Observes.saw started c.note_sleep.new.observer} s d _ read
     (c.note_sleep.ensures (standpoint config h) started _ c.in_ok-clocked.ensures.on
     (c.in_ok-clocked.ensures.saw started _ s.saw_so)) in
-    let l = (c.ask-bytes.ensures.stands _ c.args.peer (read.known _ h k).stands).client.lawful in
+    let l = (c.ask-bytes.ensures.stands _ _ c.args.peer (read.known _ h k).stands).client.lawful in
     at_err _ _ _ _ c.from_residual-in_err-send_datagram.ensures.1
     (stops_by_fault s1 (record { rises = l.rises.1; asks = l.asks.1 })
     (fails_over c.in_ok-check.ensures.on c.in_err-send_datagram.ensures.told) s1.saw_so)
@@ -109,7 +109,7 @@ returns-in_err-check-clause-goes g c some config before started h s k d =
     let s1 = calls.stands_asked {after = g.W.Observes.saw started c.note_sleep.new.observer} s d _ read
     (c.note_sleep.ensures (standpoint config h) started _ c.in_ok-clocked.ensures.on
     (c.in_ok-clocked.ensures.saw started _ s.saw_so)) in
-    let l = (c.ask-bytes.ensures.stands _ c.args.peer (read.known _ h k).stands).client.lawful in
+    let l = (c.ask-bytes.ensures.stands _ _ c.args.peer (read.known _ h k).stands).client.lawful in
     at_err _ _ _ _ c.from_residual-in_err-check.ensures.1
     (stops_by_fault s1 (record { rises = l.rises.1; asks = l.asks.1 }) (c.in_err-check.ensures.unmade _) s1.saw_so)
 
