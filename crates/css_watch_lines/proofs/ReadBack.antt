@@ -1,5 +1,5 @@
 -- Each line is read back as the object that it tells.
-use Rattle.std.proofs.Common.{ℤ, pos, negsuc, Ok, Err, refl, arith}
+use Rattle.std.proofs.Common.{ℤ, pos, negsuc, None, Some, refl, arith}
 use Rattle.json.proofs.Printed.Utf8.{IsUtf8-are_ascii}
 use Rattle.serde_json.specs.Data.{object, no_members}
 use Rattle.css_num.specs.Spans.{Interval}
@@ -14,27 +14,29 @@ use Rattle.css_cii.proofs.Laws.{change_ordered, change_utf8}
 use Rattle.css_cii.proofs.Utf8.{full-utf8}
 use Rattle.css_tsmsg.specs.Controls.{IsInRange}
 use Rattle.css_tsmsg.proofs.ReadBack.{control_ordered, control_utf8}
-use Rattle.css_watch_lines.specs.Lines.{Line, Visit, Dial, StateTold, ControlTold, Answered, Refused, SleptAt, Known}
-use Rattle.css_watch_lines.specs.Lines.{Unknown, Ended, line_members, line_data, span_data, ticks_data, told_control}
+use Rattle.css_watch_lines.specs.Lines.{Line, Visit, Dial, StateTold, ControlTold, Unread, Answered, Refused}
+use Rattle.css_watch_lines.specs.Lines.{SleptAt, Known, Unknown, Ended, EndedBy, line_members, line_data, span_data}
+use Rattle.css_watch_lines.specs.Lines.{ticks_data, told_control}
 use Rattle.css_watch_lines.specs.declared.known.Ticks.{Ticks}
 use Rattle.css_watch_lines.specs.Lines.{signed, IsReadBack}
 use Rattle.css_watch_lines.specs.Ranges.{IsTellable, EndsFit, TicksFit}
 use Rattle.css_watch_lines.specs.Writable.{AreWritable}
-use Rattle.css_watch_lines.proofs.Spelling.{signed_utf8, reading_utf8, service_utf8, outcome_utf8, landing_utf8}
-use Rattle.css_watch_lines.proofs.Spelling.{fault_utf8, cause_utf8}
+use Rattle.css_watch_lines.proofs.Spelling.{signed_utf8, reading_utf8, service_utf8, failure_utf8, landing_utf8}
+use Rattle.css_watch_lines.proofs.Spelling.{fault_utf8, cause_utf8, first_utf8}
 use Rattle.css_watch_lines.proofs.Writable.{signed_writable, state_writable, control_writable}
 
 -- ---- the members of a line can stand in it
 line_writable : (line : Line) → IsTellable line → AreWritable (line_members line)
 line_writable (Visit count reading) h = record { plain = (tt, (h.few, (tt, tt))); shallow = omega arith }
-line_writable (Dial kind is_open) h = record { plain = (tt, (tt, (tt, tt))); shallow = omega arith }
+line_writable (Dial kind None) h = record { plain = (tt, (tt, (tt, tt))); shallow = omega arith }
+line_writable (Dial kind (Some failure)) h = record { plain = (tt, (tt, (tt, (tt, tt)))); shallow = omega arith }
 line_writable (StateTold state) h =
     let told = state_writable state h.1 in
     record { plain = (tt, (told.plain, tt)); shallow = omega (arith, told.shallow) }
-line_writable (ControlTold (Ok control)) h =
+line_writable (ControlTold control) h =
     let told = control_writable control h in
     record { plain = (told.plain, (tt, tt)); shallow = omega (arith, told.shallow) }
-line_writable (ControlTold (Err fault)) h = record { plain = (tt, (tt, tt)); shallow = omega arith }
+line_writable (Unread fault text) h = record { plain = (tt, (tt, (tt, tt))); shallow = omega arith }
 line_writable (Answered answer kind landed width) h = record {
   plain = (
     omega (arith, h.0.error),
@@ -42,7 +44,7 @@ line_writable (Answered answer kind landed width) h = record {
   );
   shallow = omega arith;
 }
-line_writable (Refused landing landed) h = record { plain = (tt, (tt, (tt, tt))); shallow = omega arith }
+line_writable (Refused landing bytes landed) h = record { plain = (tt, (tt, (tt, (tt, tt)))); shallow = omega arith }
 line_writable (SleptAt reading) h = record { plain = (tt, (tt, tt)); shallow = omega arith }
 line_writable (Known count reading told) h =
     let speed = signed_writable told.speed h.1.speed in
@@ -68,6 +70,7 @@ line_writable (Unknown count reading cause detail) h = record {
   shallow = omega arith;
 }
 line_writable (Ended count why) h = record { plain = (tt, (h.0, (tt, tt))); shallow = omega arith }
+line_writable (EndedBy count why text) h = record { plain = (tt, (h.0, (tt, (tt, tt)))); shallow = omega arith }
 
 -- ---- the texts in a line are UTF-8
 -- the ends of a span
@@ -102,13 +105,26 @@ line_utf8 (Visit count reading) h = (
     (IsUtf8-are_ascii _ refl, reading_utf8 reading h.early, tt),
   ),
 )
-line_utf8 (Dial kind is_open) h = (
+line_utf8 (Dial kind None) h = (
   IsUtf8-are_ascii _ refl,
   IsUtf8-are_ascii _ refl,
   (
     IsUtf8-are_ascii _ refl,
-    outcome_utf8 is_open,
+    IsUtf8-are_ascii _ refl,
     (IsUtf8-are_ascii _ refl, service_utf8 kind, tt),
+  ),
+)
+line_utf8 (Dial kind (Some failure)) h = (
+  IsUtf8-are_ascii _ refl,
+  IsUtf8-are_ascii _ refl,
+  (
+    IsUtf8-are_ascii _ refl,
+    IsUtf8-are_ascii _ refl,
+    (
+      IsUtf8-are_ascii _ refl,
+      service_utf8 kind,
+      (IsUtf8-are_ascii _ refl, failure_utf8 failure h, tt),
+    ),
   ),
 )
 line_utf8 (StateTold state) h = (
@@ -116,15 +132,19 @@ line_utf8 (StateTold state) h = (
   IsUtf8-are_ascii _ refl,
   (IsUtf8-are_ascii _ refl, state_utf8 state h.0, tt),
 )
-line_utf8 (ControlTold (Ok control)) h = (
+line_utf8 (ControlTold control) h = (
   IsUtf8-are_ascii _ refl,
   told_utf8 control h,
   (IsUtf8-are_ascii _ refl, IsUtf8-are_ascii _ refl, tt),
 )
-line_utf8 (ControlTold (Err fault)) h = (
+line_utf8 (Unread fault text) h = (
   IsUtf8-are_ascii _ refl,
   IsUtf8-are_ascii _ refl,
-  (IsUtf8-are_ascii _ refl, fault_utf8 fault, tt),
+  (
+    IsUtf8-are_ascii _ refl,
+    fault_utf8 fault,
+    (IsUtf8-are_ascii _ refl, h, tt),
+  ),
 )
 line_utf8 (Answered answer kind landed width) h =
     let ranges = h.0 in (
@@ -156,13 +176,17 @@ line_utf8 (Answered answer kind landed width) h =
         ),
       ),
     )
-line_utf8 (Refused landing landed) h = (
+line_utf8 (Refused landing bytes landed) h = (
   IsUtf8-are_ascii _ refl,
-  IsUtf8-are_ascii _ refl,
+  first_utf8 bytes,
   (
     IsUtf8-are_ascii _ refl,
-    landing_utf8 landing,
-    (IsUtf8-are_ascii _ refl, reading_utf8 landed h, tt),
+    IsUtf8-are_ascii _ refl,
+    (
+      IsUtf8-are_ascii _ refl,
+      landing_utf8 landing,
+      (IsUtf8-are_ascii _ refl, reading_utf8 landed h, tt),
+    ),
   ),
 )
 line_utf8 (SleptAt reading) h = (
@@ -221,6 +245,19 @@ line_utf8 (Ended count why) h = (
   IsUtf8-are_ascii _ refl,
   (IsUtf8-are_ascii _ refl, tt, (IsUtf8-are_ascii _ refl, h.1, tt)),
 )
+line_utf8 (EndedBy count why text) h = (
+  IsUtf8-are_ascii _ refl,
+  IsUtf8-are_ascii _ refl,
+  (
+    IsUtf8-are_ascii _ refl,
+    tt,
+    (
+      IsUtf8-are_ascii _ refl,
+      h.2,
+      (IsUtf8-are_ascii _ refl, h.1, tt),
+    ),
+  ),
+)
 
 -- ---- the names in a line are in alphabetical order
 -- a number has none, and is unsigned exactly where it isn't below zero
@@ -236,10 +273,12 @@ told_ordered Unavailable = (tt, tt, ((refl, tt), tt, ((refl, (refl, tt)), tt, tt
 -- all of them
 line_ordered : (line : Line) → AreOrderedAfter no_members (line_members line)
 line_ordered (Visit count reading) = (tt, tt, ((refl, tt), tt, ((refl, (refl, tt)), tt, tt)))
-line_ordered (Dial kind is_open) = (tt, tt, ((refl, tt), tt, ((refl, (refl, tt)), tt, tt)))
+line_ordered (Dial kind None) = (tt, tt, ((refl, tt), tt, ((refl, (refl, tt)), tt, tt)))
+line_ordered (Dial kind (Some failure)) =
+    (tt, tt, ((refl, tt), tt, ((refl, (refl, tt)), tt, ((refl, (refl, (refl, tt))), tt, tt))))
 line_ordered (StateTold state) = (tt, tt, ((refl, tt), change_ordered (full_change state), tt))
-line_ordered (ControlTold (Ok control)) = (tt, told_ordered control, ((refl, tt), tt, tt))
-line_ordered (ControlTold (Err fault)) = (tt, tt, ((refl, tt), tt, tt))
+line_ordered (ControlTold control) = (tt, told_ordered control, ((refl, tt), tt, tt))
+line_ordered (Unread fault text) = (tt, tt, ((refl, tt), tt, ((refl, (refl, tt)), tt, tt)))
 line_ordered (Answered answer kind landed width) = (
   tt,
   tt,
@@ -273,7 +312,8 @@ line_ordered (Answered answer kind landed width) = (
     ),
   ),
 )
-line_ordered (Refused landing landed) = (tt, tt, ((refl, tt), tt, ((refl, (refl, tt)), tt, tt)))
+line_ordered (Refused landing bytes landed) =
+    (tt, tt, ((refl, tt), tt, ((refl, (refl, tt)), tt, ((refl, (refl, (refl, tt))), tt, tt))))
 line_ordered (SleptAt reading) = (tt, tt, ((refl, tt), tt, tt))
 line_ordered (Known count reading told) = (
   tt,
@@ -318,6 +358,8 @@ line_ordered (Unknown count reading cause detail) = (
   ),
 )
 line_ordered (Ended count why) = (tt, tt, ((refl, tt), tt, ((refl, (refl, tt)), tt, tt)))
+line_ordered (EndedBy count why text) =
+    (tt, tt, ((refl, tt), tt, ((refl, (refl, tt)), tt, ((refl, (refl, (refl, tt))), tt, tt))))
 
 -- ---- so a line's text is read back
 pub line_reads : (line : Line) → IsTellable line → IsReadBack (line_data line)

@@ -1,11 +1,18 @@
 -- The words and numbers of lines are UTF-8.
-use Rattle.std.proofs.Common.{ℕ, suc, ◌^◌, ◌<◌, ℤ, pos, negsuc, refl, arith}
+use Rattle.std.proofs.Common.{◌≡◌, ℕ, List, [], ◌∷◌, true, suc, ◌^◌, ◌<◌, ℤ, pos, negsuc, refl, arith}
+use Rattle.std.proofs.lemmas.Bool.{and_parts, ltb-true}
 use Rattle.std.proofs.lemmas.Fmt.{IsAscii-decimal_wide}
+use Rattle.std.proofs.lemmas.List.Elements.{All-cons, All-nil}
+use Rattle.std.proofs.lemmas.Str.Ascii.{IsAscii-from_all}
 use Rattle.std.proofs.lemmas.Str.{IsUtf8-append, IsUtf8-from_ascii}
-use Rattle.std.specs.Prelude.{Bool, true, false, codes, decimal, unsigned_abs}
+use Rattle.std.specs.Prelude.{All, codes, decimal, nat_lt, take, unsigned_abs}
 use Rattle.std.specs.Fmt.{signed_decimal}
 use Rattle.std.specs.Str.{IsUtf8}
-use Rattle.json.proofs.Printed.Utf8.{IsUtf8-are_ascii}
+use Rattle.hex.proofs.HexLemmas.{IsAscii-encode_with}
+use Rattle.hex.specs.Hex.{lower_digits}
+use Rattle.json.proofs.Printed.Utf8.{IsUtf8-are_ascii, are_ascii}
+use Rattle.css_model.specs.declared.Failure.{Failure}
+use Rattle.css_model.specs.declared.Failure.TheVariants as failure
 use Rattle.css_model.specs.declared.Kind.{Kind}
 use Rattle.css_model.specs.declared.Kind.TheVariants as kind
 use Rattle.css_model.specs.declared.WcFault.{WcFault}
@@ -20,7 +27,8 @@ use Rattle.css_client.specs.declared.landing.Landing.TheVariants as landing
 use Rattle.css_companion.specs.Printed.{cause_words, fault_words}
 use Rattle.css_companion.specs.declared.report.Cause.{Cause}
 use Rattle.css_companion.specs.declared.report.Cause.TheVariants as cause
-use Rattle.css_watch_lines.specs.Words.{service_words, outcome_words, undecodable_words, landing_words}
+use Rattle.css_watch_lines.specs.Ranges.{StatusFits}
+use Rattle.css_watch_lines.specs.Words.{service_words, failure_words, undecodable_words, landing_words, first_digits}
 
 -- the digits of a number
 digits_utf8 : (n : ℕ) → n < 10 ^ 64 → IsUtf8 (decimal n)
@@ -42,10 +50,32 @@ service_utf8 kind.Wc = IsUtf8-are_ascii _ refl
 service_utf8 kind.Cii = IsUtf8-are_ascii _ refl
 service_utf8 kind.Ts = IsUtf8-are_ascii _ refl
 
--- what came of a dial
-pub outcome_utf8 : (is_open : Bool) → IsUtf8 (outcome_words is_open)
-outcome_utf8 true = IsUtf8-are_ascii _ refl
-outcome_utf8 false = IsUtf8-are_ascii _ refl
+-- why a dial failed
+pub failure_utf8 : (f : Failure) → StatusFits f → IsUtf8 (failure_words f)
+failure_utf8 failure.Refused h = IsUtf8-are_ascii _ refl
+failure_utf8 failure.NoSuchHost h = IsUtf8-are_ascii _ refl
+failure_utf8 failure.TimedOut h = IsUtf8-are_ascii _ refl
+failure_utf8 (failure.HttpStatus status) h =
+    IsUtf8-append (codes "HTTP status ") (decimal status) (IsUtf8-are_ascii _ refl) (digits_utf8 status (omega arith))
+failure_utf8 failure.NoWebSocket h = IsUtf8-are_ascii _ refl
+failure_utf8 failure.NoPermission h = IsUtf8-are_ascii _ refl
+failure_utf8 failure.NoRoom h = IsUtf8-are_ascii _ refl
+failure_utf8 failure.InUse h = IsUtf8-are_ascii _ refl
+failure_utf8 failure.NotHere h = IsUtf8-are_ascii _ refl
+failure_utf8 failure.Other h = IsUtf8-are_ascii _ refl
+
+-- hex digits
+small : (bs : List ℕ) → are_ascii bs ≡ true → All (λ (b : ℕ). b < 128) bs
+small [] e = All-nil (λ (b : ℕ). b < 128)
+small (b ∷ bs) e =
+    let p = and_parts (nat_lt b 128) (are_ascii bs) e in
+    All-cons (λ (b : ℕ). b < 128) b bs (ltb-true b 128 p.0) (small bs p.1)
+
+-- the first bytes of a datagram
+pub first_utf8 : (bytes : List ℕ) → IsUtf8 (first_digits bytes)
+first_utf8 bytes =
+    IsUtf8-from_ascii (first_digits bytes) (IsAscii-encode_with lower_digits (take 64 bytes)
+    (IsAscii-from_all lower_digits (small lower_digits refl)))
 
 -- why bytes are no datagram
 undecodable_utf8 : (f : WcFault) → IsUtf8 (undecodable_words f)

@@ -1,4 +1,5 @@
 pub mod Words
+pub mod Fronts
 pub mod Lines
 pub mod Ranges
 pub mod Writable

@@ -1,5 +1,5 @@
 -- What the lines of a watch tell, and the JSON object of each.
-use Rattle.std.specs.Prelude.{◌≡◌, ℕ, ℤ, pos, List, [], ◌∷◌, ◌++◌, Bool, Result, Ok, Err, codes}
+use Rattle.std.specs.Prelude.{◌≡◌, ℕ, ℤ, pos, List, [], ◌∷◌, ◌++◌, Option, Some, None, Ok, codes}
 use Rattle.std.specs.Fmt.{signed_decimal}
 use Rattle.serde_json.specs.Data.{Data, null, number, unsigned, string, array, object, no_items, item}
 use Rattle.serde_json.specs.Data.{Members, no_members, member}
@@ -9,6 +9,7 @@ use Rattle.css_num.specs.Spans.{Interval}
 use Rattle.css_num.specs.declared.control.Control.{Control}
 use Rattle.css_num.specs.declared.control.Control.TheVariants.{Available, Unavailable}
 use Rattle.css_model.specs.WallClock.{Answer}
+use Rattle.css_model.specs.declared.Failure.{Failure}
 use Rattle.css_model.specs.declared.Kind.{Kind}
 use Rattle.css_text.specs.Readings.{object_of, members_or_fault}
 use Rattle.css_cii.specs.States.{full_change}
@@ -19,7 +20,7 @@ use Rattle.css_tsmsg.specs.declared.fault.TsFault.{TsFault}
 use Rattle.css_client.specs.declared.landing.Landing.{Landing}
 use Rattle.css_companion.specs.Printed.{cause_words, fault_words}
 use Rattle.css_companion.specs.declared.report.Cause.{Cause}
-use Rattle.css_watch_lines.specs.Words.{service_words, outcome_words, landing_words}
+use Rattle.css_watch_lines.specs.Words.{service_words, failure_words, landing_words, first_digits}
 use Rattle.css_watch_lines.specs.declared.known.Known.{Known as Ticking}
 use Rattle.css_watch_lines.specs.declared.known.Ticks.{Ticks}
 
@@ -27,16 +28,18 @@ use Rattle.css_watch_lines.specs.declared.known.Ticks.{Ticks}
 pub data Line : Type 0 where
   -- a visit began: its number, and the reading
   Visit : ℕ → ℕ → Line
-  -- the outcome of a dial: the service, and whether its session or socket is open
-  Dial : Kind → Bool → Line
+  -- the outcome of a dial: the service, and what the system said where it failed
+  Dial : Kind → Option Failure → Line
   -- the state after a CII text
   StateTold : State → Line
-  -- what a TS text was read as
-  ControlTold : Result Control TsFault → Line
+  -- the control timestamp that a TS text was read as
+  ControlTold : Control → Line
+  -- a TS text wasn't readable: the fault, and the front of the text
+  Unread : TsFault → List ℕ → Line
   -- an answer was accepted: its message type, the reading at which it landed, and the width of its span there
   Answered : Answer → ℕ → ℕ → ℤ → Line
-  -- a datagram was refused: what became of it, and the reading at which it landed
-  Refused : Landing → ℕ → Line
+  -- a datagram was refused: what became of it, its bytes, and the reading at which it landed
+  Refused : Landing → List ℕ → ℕ → Line
   -- a sleep was noticed, at this reading
   SleptAt : ℕ → Line
   -- a report with ticks: its number, and the reading
@@ -45,6 +48,8 @@ pub data Line : Type 0 where
   Unknown : ℕ → ℕ → Cause → List ℕ → Line
   -- a visit ended: its number, and why
   Ended : ℕ → List ℕ → Line
+  -- a visit ended with a CII text: its number, why, and the front of the text
+  EndedBy : ℕ → List ℕ → List ℕ → Line
 
 -- ---- values
 -- a number of any size, as the text of its digits
@@ -100,19 +105,25 @@ line_members (Visit count reading) =
     member (codes "event") (string (codes "visit"))
     (member (codes "number") (whole count)
     (member (codes "reading") (time reading) no_members))
-line_members (Dial kind is_open) =
+line_members (Dial kind None) =
     member (codes "event") (string (codes "dial"))
-    (member (codes "outcome") (string (outcome_words is_open))
+    (member (codes "outcome") (string (codes "open"))
     (member (codes "service") (string (service_words kind)) no_members))
+line_members (Dial kind (Some failure)) =
+    member (codes "event") (string (codes "dial"))
+    (member (codes "outcome") (string (codes "failed"))
+    (member (codes "service") (string (service_words kind))
+    (member (codes "why") (string (failure_words failure)) no_members)))
 line_members (StateTold state) =
     member (codes "event") (string (codes "state"))
     (member (codes "state") (object (change_members (full_change state))) no_members)
-line_members (ControlTold (Ok control)) =
+line_members (ControlTold control) =
     member (codes "control") (told_control control)
     (member (codes "event") (string (codes "control")) no_members)
-line_members (ControlTold (Err fault)) =
+line_members (Unread fault text) =
     member (codes "event") (string (codes "control"))
-    (member (codes "fault") (string (fault_words fault)) no_members)
+    (member (codes "fault") (string (fault_words fault))
+    (member (codes "text") (string text) no_members))
 line_members (Answered answer kind landed width) =
     member (codes "error") (whole answer.error)
     (member (codes "event") (string (codes "answer"))
@@ -123,10 +134,11 @@ line_members (Answered answer kind landed width) =
     (member (codes "transmit") (time answer.t3)
     (member (codes "type") (whole kind)
     (member (codes "width") (digits width) no_members))))))))
-line_members (Refused landing landed) =
-    member (codes "event") (string (codes "refused"))
+line_members (Refused landing bytes landed) =
+    member (codes "bytes") (string (first_digits bytes))
+    (member (codes "event") (string (codes "refused"))
     (member (codes "fault") (string (landing_words landing))
-    (member (codes "landed") (time landed) no_members))
+    (member (codes "landed") (time landed) no_members)))
 line_members (SleptAt reading) =
     member (codes "event") (string (codes "slept"))
     (member (codes "reading") (time reading) no_members)
@@ -149,6 +161,11 @@ line_members (Ended count why) =
     member (codes "event") (string (codes "end"))
     (member (codes "number") (whole count)
     (member (codes "why") (string why) no_members))
+line_members (EndedBy count why text) =
+    member (codes "event") (string (codes "end"))
+    (member (codes "number") (whole count)
+    (member (codes "text") (string text)
+    (member (codes "why") (string why) no_members)))
 
 -- the value of a line
 abbrev pub line_data : Line → Data

@@ -1,7 +1,10 @@
 -- The words that stand in the lines of a watch.
-use Rattle.std.specs.Prelude.{ℕ, List, Bool, true, false, codes}
+use Rattle.std.specs.Prelude.{ℕ, List, ◌++◌, codes, decimal, take}
+use Rattle.hex.specs.Hex.{encode_lower}
 use Rattle.css_client.specs.declared.landing.Landing.{Landing}
 use Rattle.css_client.specs.declared.landing.Landing.TheVariants as landing
+use Rattle.css_model.specs.declared.Failure.{Failure}
+use Rattle.css_model.specs.declared.Failure.TheVariants as failure
 use Rattle.css_model.specs.declared.Kind.{Kind}
 use Rattle.css_model.specs.declared.Kind.TheVariants as kind
 use Rattle.css_model.specs.declared.WcFault.{WcFault}
@@ -13,10 +16,18 @@ service_words kind.Wc = codes "WC"
 service_words kind.Cii = codes "CII"
 service_words kind.Ts = codes "TS"
 
--- what came of a dial
-abbrev pub outcome_words : Bool → List ℕ
-outcome_words true = codes "open"
-outcome_words false = codes "failed"
+-- why a dial failed
+abbrev pub failure_words : Failure → List ℕ
+failure_words failure.Refused = codes "refused"
+failure_words failure.NoSuchHost = codes "no such host"
+failure_words failure.TimedOut = codes "no answer"
+failure_words (failure.HttpStatus status) = codes "HTTP status " ++ decimal status
+failure_words failure.NoWebSocket = codes "no WebSocket"
+failure_words failure.NoPermission = codes "no permission"
+failure_words failure.NoRoom = codes "no room"
+failure_words failure.InUse = codes "other"
+failure_words failure.NotHere = codes "other"
+failure_words failure.Other = codes "other"
 
 -- why bytes are no datagram
 abbrev pub undecodable_words : WcFault → List ℕ
@@ -34,3 +45,7 @@ landing_words (landing.Undecodable reason) = undecodable_words reason
 landing_words landing.NotAnAnswer = codes "NotAnAnswer"
 landing_words landing.Unasked = codes "Unasked"
 landing_words (landing.Impossible width) = codes "Impossible"
+
+-- the first 64 bytes of a datagram, as hex digits
+abbrev pub first_digits : List ℕ → List ℕ
+first_digits bytes = encode_lower (take 64 bytes)

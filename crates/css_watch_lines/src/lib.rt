@@ -5,15 +5,18 @@
 //! one kind of event out of plain values.
 #![tactic(auto)]
 
+mod fronts;
 mod known;
 pub mod laws;
 mod lines;
 mod members;
 mod words;
 
+pub use fronts::front;
 pub use known::{Known, Ticks};
 pub use lines::{
-    answer_line, cause_line, control_line, dial_line, end_line, known_line, refused_line,
-    slept_line, state_line, visit_line,
+    answer_line, cause_line, control_line, dial_line, end_line, known_line, refused_end_line,
+    refused_line, slept_line, state_line, unread_line, visit_line,
 };
-pub use words::landing_words;
+pub use members::words_of;
+pub use words::{failure_words, landing_words};

@@ -1,4 +1,4 @@
-ghost use Rattle.std.specs.Prelude.{◌≡◌, ◌<◌, ◌^◌, IfOk, OnOk, Ok, Err};
+ghost use Rattle.std.specs.Prelude.{◌≡◌, ◌<◌, ◌^◌, IfOk, OnOk, None, Some};
 ghost use Rattle.serde_json.specs.View.{view};
 ghost use Rattle.css_cii.specs.Texts.{IsUtf8State};
 ghost use Rattle.css_tsmsg.specs.Controls.{IsInRange};
@@ -7,11 +7,11 @@ ghost use Rattle.css_watch_lines.specs.Writable.{AreWritable, told_in};
 
 use crate::known::Known;
 use crate::members::Members;
-use crate::words::{landing_words, outcome_words, service_words};
+use crate::words::{failure_words, first_digits, landing_words, service_words};
 use css_cii::{State, state_value};
 use css_client::Landing;
 use css_companion::{Cause, cause_text, fault_text};
-use css_model::Kind;
+use css_model::{Failure, Kind};
 use css_num::{Control, Memory, Text};
 use css_span::Answer;
 use css_tsmsg::{TsFault, control_value};
@@ -30,15 +30,39 @@ pub fn visit_line(alloc: Global, number: u64, reading: u64) -> Result<Text, Memo
         .line()
 }
 
-/// The line of a dial's outcome: `event` is `dial`.
-pub fn dial_line(alloc: Global, kind: Kind, is_open: bool) -> Result<Text, Memory>
-    ensures text { IfOk result (λ text. text ≡ lines.line_text (lines.Dial kind is_open)) }
-    ensures read_back { OnOk result (lines.IsReadBack (lines.line_data (lines.Dial kind is_open))) }
+/// The line of a dial that succeeded.
+fn open_line(alloc: Global, kind: Kind) -> Result<Text, Memory>
+    ensures text { IfOk result (λ text. text ≡ lines.line_text (lines.Dial kind None)) }
+    ensures read_back { OnOk result (lines.IsReadBack (lines.line_data (lines.Dial kind None))) }
 {
     Members::of_event(alloc, "dial")?
-        .with_words("outcome", outcome_words(is_open))?
+        .with_words("outcome", "open")?
         .with_words("service", service_words(kind))?
         .line()
+}
+
+/// The line of a dial that failed.
+fn failed_line(alloc: Global, kind: Kind, failure: Failure) -> Result<Text, Memory>
+    ensures text { IfOk result (λ text. text ≡ lines.line_text (lines.Dial kind (Some failure))) }
+    ensures read_back { OnOk result (lines.IsReadBack (lines.line_data (lines.Dial kind (Some failure)))) }
+{
+    let why = failure_words(alloc, failure)?;
+    Members::of_event(alloc, "dial")?
+        .with_words("outcome", "failed")?
+        .with_words("service", service_words(kind))?
+        .with_words("why", why.as_str())?
+        .line()
+}
+
+/// The line of a dial's outcome: `event` is `dial`. `failure` is what the system said of one that failed.
+pub fn dial_line(alloc: Global, kind: Kind, failure: Option<Failure>) -> Result<Text, Memory>
+    ensures text { IfOk result (λ text. text ≡ lines.line_text (lines.Dial kind failure)) }
+    ensures read_back { OnOk result (lines.IsReadBack (lines.line_data (lines.Dial kind failure))) }
+{
+    match failure {
+        None => open_line(alloc, kind),
+        Some(failure) => failed_line(alloc, kind, failure),
+    }
 }
 
 /// The line of the state after a CII text: `event` is `state`. It has all nine properties, null where they are. Each
@@ -66,11 +90,14 @@ fn told_value(alloc: Global, control: &Control) -> Result<Value, AllocError>
     }
 }
 
-/// The line of a control timestamp.
-fn taken_line(alloc: Global, control: &Control) -> Result<Text, Memory>
+/// The line of a control timestamp: `event` is `control`. Where the timeline isn't available all three members are
+/// null, also the wall time, which a television's own text has.
+///
+/// The content time has at most 18 digits, the wall time is below 2^63, and the speed is -64 to 64.
+pub fn control_line(alloc: Global, control: &Control) -> Result<Text, Memory>
     requires { IsInRange control.now }
-    ensures text { IfOk result (λ text. text ≡ lines.line_text (lines.ControlTold (Ok control.now))) }
-    ensures read_back { OnOk result (lines.IsReadBack (lines.line_data (lines.ControlTold (Ok control.now)))) }
+    ensures text { IfOk result (λ text. text ≡ lines.line_text (lines.ControlTold control.now)) }
+    ensures read_back { OnOk result (lines.IsReadBack (lines.line_data (lines.ControlTold control.now))) }
 {
     let control = told_value(alloc, control)?;
     Members::of_event(alloc, "control")?
@@ -78,30 +105,16 @@ fn taken_line(alloc: Global, control: &Control) -> Result<Text, Memory>
         .line()
 }
 
-/// The line of a TS text that isn't readable.
-fn unread_line(alloc: Global, fault: TsFault) -> Result<Text, Memory>
-    ensures text { IfOk result (λ text. text ≡ lines.line_text (lines.ControlTold (Err fault))) }
-    ensures read_back { OnOk result (lines.IsReadBack (lines.line_data (lines.ControlTold (Err fault)))) }
+/// The line of a TS text that isn't readable: `event` is `control`. It has the fault and the front of the text.
+pub fn unread_line(alloc: Global, fault: TsFault, text: &str) -> Result<Text, Memory>
+    ensures text { IfOk result (λ line. line ≡ lines.line_text (lines.Unread fault text.now)) }
+    ensures read_back { OnOk result (lines.IsReadBack (lines.line_data (lines.Unread fault text.now))) }
 {
     let fault = fault_text(alloc, fault)?;
     Members::of_event(alloc, "control")?
         .with_text("fault", &fault)?
+        .with_words("text", text)?
         .line()
-}
-
-/// The line of a TS text: `event` is `control`. It has the control timestamp, or the fault. Where the timeline isn't
-/// available all three members are null, also the wall time, which a television's own text has.
-///
-/// The content time has at most 18 digits, the wall time is below 2^63, and the speed is -64 to 64.
-pub fn control_line(alloc: Global, told: &Result<Control, TsFault>) -> Result<Text, Memory>
-    requires { IfOk told.now IsInRange }
-    ensures text { IfOk result (λ text. text ≡ lines.line_text (lines.ControlTold told.now)) }
-    ensures read_back { OnOk result (lines.IsReadBack (lines.line_data (lines.ControlTold told.now))) }
-{
-    match told {
-        Ok(control) => taken_line(alloc, control),
-        Err(fault) => unread_line(alloc, *fault),
-    }
 }
 
 /// The members of an answer, but for those of its datagram.
@@ -139,12 +152,21 @@ pub fn answer_line(
         .line()
 }
 
-/// The line of a datagram that is refused: `event` is `refused`. `landed` is the reading at which it landed.
-pub fn refused_line(alloc: Global, landing: &Landing, landed: u64) -> Result<Text, Memory>
-    ensures text { IfOk result (λ text. text ≡ lines.line_text (lines.Refused landing.now landed)) }
-    ensures read_back { OnOk result (lines.IsReadBack (lines.line_data (lines.Refused landing.now landed))) }
+/// The line of a datagram that is refused: `event` is `refused`. It has the first 64 bytes. `landed` is the reading at
+/// which it landed.
+pub fn refused_line(
+    alloc: Global,
+    landing: &Landing,
+    bytes: &[u8],
+    landed: u64,
+) -> Result<Text, Memory>
+    ensures text { IfOk result (λ text. text ≡ lines.line_text (lines.Refused landing.now bytes.now landed)) }
+    ensures read_back { OnOk result
+        (lines.IsReadBack (lines.line_data (lines.Refused landing.now bytes.now landed))) }
 {
+    let digits = first_digits(alloc, bytes)?;
     Members::of_event(alloc, "refused")?
+        .with_words("bytes", digits.as_str())?
         .with_words("fault", landing_words(landing))?
         .with_time("landed", landed)?
         .line()
@@ -215,6 +237,19 @@ pub fn end_line(alloc: Global, number: u64, why: &str) -> Result<Text, Memory>
 {
     Members::of_event(alloc, "end")?
         .with_number("number", number)?
+        .with_words("why", why)?
+        .line()
+}
+
+/// The line where a CII text ends a visit: `event` is `end`. `why` says what ended it, and `text` is the text's front.
+pub fn refused_end_line(alloc: Global, number: u64, why: &str, text: &str) -> Result<Text, Memory>
+    requires { number < 10 ^ 18 }
+    ensures text { IfOk result (λ line. line ≡ lines.line_text (lines.EndedBy number why.now text.now)) }
+    ensures read_back { OnOk result (lines.IsReadBack (lines.line_data (lines.EndedBy number why.now text.now))) }
+{
+    Members::of_event(alloc, "end")?
+        .with_number("number", number)?
+        .with_words("text", text)?
         .with_words("why", why)?
         .line()
 }

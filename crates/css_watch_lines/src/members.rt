@@ -13,8 +13,8 @@ use css_text::{Map, write_value};
 use serde_json::{Value, json};
 use std::alloc::{AllocError, Global};
 
-/// The words of a text.
-fn words_of(text: &Text) -> &str
+/// The words of a text, which is UTF-8.
+pub fn words_of(text: &Text) -> &str
     requires { IsUtf8 text.now }
     ensures { result.now ≡ text.now }
 {

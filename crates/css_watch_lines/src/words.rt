@@ -1,8 +1,10 @@
-ghost use Rattle.std.specs.Prelude.{◌≡◌};
+ghost use Rattle.std.specs.Prelude.{◌≡◌, IfOk, string_bytes, take};
 ghost use Rattle.css_watch_lines.specs.Words as words;
 
 use css_client::Landing;
-use css_model::{Kind, WcFault};
+use css_model::{Failure, Kind, WcFault};
+use css_num::Memory;
+use std::alloc::Global;
 
 /// The name of a service.
 pub(crate) fn service_words(kind: Kind) -> &'static str
@@ -15,11 +17,34 @@ pub(crate) fn service_words(kind: Kind) -> &'static str
     }
 }
 
-/// What came of a dial.
-pub(crate) fn outcome_words(is_open: bool) -> &'static str
-    ensures { result.now ≡ words.outcome_words is_open }
+fn own(alloc: Global, words: &str) -> Result<String, Memory>
+    ensures { IfOk result (λ copy. string_bytes copy ≡ words.now) }
 {
-    if is_open { "open" } else { "failed" }
+    Ok(String::from_str(alloc, words)?)
+}
+
+/// Why a dial failed.
+pub fn failure_words(alloc: Global, failure: Failure) -> Result<String, Memory>
+    ensures { IfOk result (λ why. string_bytes why ≡ words.failure_words failure) }
+{
+    match failure {
+        Failure::Refused => own(alloc, "refused"),
+        Failure::NoSuchHost => own(alloc, "no such host"),
+        Failure::TimedOut => own(alloc, "no answer"),
+        Failure::HttpStatus(status) => Ok(format!(in alloc; "HTTP status {status}")?),
+        Failure::NoWebSocket => own(alloc, "no WebSocket"),
+        Failure::NoPermission => own(alloc, "no permission"),
+        Failure::NoRoom => own(alloc, "no room"),
+        Failure::InUse | Failure::NotHere | Failure::Other => own(alloc, "other"),
+    }
+}
+
+/// The first 64 bytes of a datagram, as hex digits.
+pub(crate) fn first_digits(alloc: Global, bytes: &[u8]) -> Result<String, Memory>
+    ensures { IfOk result (λ digits. string_bytes digits ≡ words.first_digits bytes.now) }
+{
+    let count = bytes.len().min(64);
+    Ok(hex::encode(alloc, &bytes[..count])?)
 }
 
 /// Why bytes are no datagram.

@@ -1,14 +1,14 @@
 -- Each call puts one member in.
-use Rattle.std.proofs.Common.{◌≡◌, Ok}
+use Rattle.std.proofs.Common.{◌≡◌}
 use Rattle.css_watch_lines.specs.Lines.{Line, ControlTold, line_members}
 use Rattle.css_watch_lines.specs.Writable.{told_in}
 use Rattle.css_watch_lines.proofs.Steps.{as_line, as_read, then_by}
-use Rattle.css_watch_lines.proofs.lines.taken_line.Goals as goal
-use Rattle.css_watch_lines.proofs.lines.taken_line.Goals.{After-line}
+use Rattle.css_watch_lines.proofs.lines.control_line.Goals as goal
+use Rattle.css_watch_lines.proofs.lines.control_line.Goals.{After-line}
 
 -- what the line tells
 abbrev told : After-line → Line
-told c = ControlTold (Ok c.args.control.now)
+told c = ControlTold c.args.control.now
 
 -- its members
 members : (c : After-line) → told_in c.in_ok-with_value.field-0 ≡ line_members (told c)
