@@ -3,6 +3,7 @@ use Rattle.std.proofs.Common.{◌≡◌, ℕ, ap, ap₂, ◌∙◌, refl, Bool, 
 use Rattle.std.proofs.Common.{None, sym, subst, inl, inr, Result, Ok, Err, eq-eqb}
 use Rattle.std.specs.Prelude.{MatchResult, is_some, not, ◌&&◌, ◌⊎◌}
 use Rattle.css_model.specs.declared.Kind.{Kind}
+use Rattle.css_model.specs.declared.Failure.{Failure}
 use Rattle.css_model.specs.declared.Kind.TheVariants as kind
 use Rattle.css_model.specs.declared.Why.{Why}
 use Rattle.css_model.specs.declared.Why.TheVariants as why
@@ -84,12 +85,12 @@ module _ (live : Live) {plan : Plan} {start now : Shown} {history : History} {sp
         subst (λ own. P own new.companion) (sym d.live) (subst (P (with_dial k d.tried live.own)) (sym d.same) stands),
       )
     where
-      by : (k : Kind) (tried : Option ℕ) → ◌≡◌ {A = Progress} (steps.called k tried (facts_in live))
+      by : (k : Kind) (tried : Result ℕ Failure) → ◌≡◌ {A = Progress} (steps.called k tried (facts_in live))
           (stood (record live { own = with_dial k tried live.own }) (Called k))
-      by k None = refl
-      by kind.Cii (Some q) = refl
-      by kind.Wc (Some q) = refl
-      by kind.Ts (Some q) = refl
+      by k (Err failure) = refl
+      by kind.Cii (Ok q) = refl
+      by kind.Wc (Ok q) = refl
+      by kind.Ts (Ok q) = refl
 
   -- nothing was called
   same : (to : Facts → History → Due) {new : At} → new ≡ now_at now live

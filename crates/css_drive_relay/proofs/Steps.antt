@@ -10,6 +10,7 @@ use Rattle.css_model.specs.declared.Message.{Message}
 use Rattle.std.proofs.lemmas.List.Elements.{All-nil, All-filter, All-head, All-cons, All-append, All-weaker}
 use Rattle.std.proofs.lemmas.Bool.Decides.{nat_tests}
 use Rattle.css_model.specs.declared.Kind.{Kind}
+use Rattle.css_model.specs.declared.Failure.{Failure}
 use Rattle.css_model.specs.History.{Dialled, Accepted, History, Entry, Slept, Clock, Address, Dialling, NotDialled}
 use Rattle.css_model.specs.History.{Closed, Gone, Heard, Sent, request_in, NoneCame}
 use Rattle.css_companion.specs.Meanings.{kind_of, opens_ts, is_cii, is_ts, state_of}
@@ -419,15 +420,15 @@ stops_by_memory {plan} {start} {now} {live} {history = history} s l ended e =
 
 -- ---- dials
 -- how far the run is once a dial was tried
-abbrev pub called : Kind → Option ℕ → Facts → Progress
-called k None f = record { facts = f; place = Called k }
-called k (Some peer) f = record { facts = after_dial k peer f; place = Called k }
+abbrev pub called : Kind → Result ℕ Failure → Facts → Progress
+called k (Err failure) f = record { facts = f; place = Called k }
+called k (Ok peer) f = record { facts = after_dial k peer f; place = Called k }
 
 module _ (live : Live) {plan : Plan} {start now : Shown} {relay : Relay} {history : History} {at : Place}
     (s : Stands plan start now relay (stood live at) history) where
   -- a dial gave this peer, which no other has
   knows_dialled : (k : Kind) (q : ℕ) → now.counts.peers < q → opens_ts (Dialled k q) ≡ false
-      → KnowsPeers (called k (Some q) (facts_in live)) (Dialled k q ∷ history)
+      → KnowsPeers (called k (Ok q) (facts_in live)) (Dialled k q ∷ history)
   knows_dialled kind.Cii q lt opens = (
     s.runs.peers.0,
     All-nil (Came history),
@@ -444,31 +445,32 @@ module _ (live : Live) {plan : Plan} {start now : Shown} {relay : Relay} {histor
   knows_dialled kind.Ts q lt opens = absurd (cc)
 
   pub dialled : {next : Shown} (k : Kind) (to : Address) → due_at plan (facts_in live) history at ≡ Dial k to
-      → ((q : ℕ) → opens_ts (Dialled k q) ≡ false) → (tried : Option ℕ) → HasDialled now next k to tried
+      → ((q : ℕ) → opens_ts (Dialled k q) ≡ false) → (tried : Result ℕ Failure) → HasDialled now next k to tried
       → Stands plan start next relay (called k tried (facts_in live)) (dial_entries k to tried ++ history)
-  dialled {next} k to is-due opens None d = record {
-    runs = runs_more s.runs (NotDialled k ∷ Dialling k to ∷ []) (may_as is-due (NotDialled k ∷ Dialling k to ∷ [])
-        (inr refl)) d.told d.faults (called k None (facts_in live))
-        (ap (λ (p : Progress). after plan (NotDialled k) (Dialling k to ∷ history) p) s.runs.progress)
+  dialled {next} k to is-due opens (Err failure) d = record {
+    runs = runs_more s.runs (NotDialled k failure ∷ Dialling k to ∷ []) (may_as is-due
+        (NotDialled k failure ∷ Dialling k to ∷ []) (inr (failure, refl))) d.told d.faults
+        (called k (Err failure) (facts_in live))
+        (ap (λ (p : Progress). after plan (NotDialled k failure) (Dialling k to ∷ history) p) s.runs.progress)
         (s.runs.peers.0, All-nil (Came history), s.runs.peers.2)
         (let later = d.later in in_order_later _ (next.counts.peers + 1) history s.runs.ordered (omega (arith, later)));
     knows = record {
-      companion = knows_tried k to None tt s.knows.companion;
+      companion = knows_tried k to (Err failure) tt s.knows.companion;
       wc_url = s.knows.wc_url;
       agrees = s.knows.agrees;
     };
   }
-  dialled {next} k to is-due opens (Some q) d =
+  dialled {next} k to is-due opens (Ok q) d =
       let lt = d.peer.0 in
       let le = d.peer.1 in
       record {
         runs = runs_more s.runs (Dialled k q ∷ Dialling k to ∷ []) (may_as is-due (Dialled k q ∷ Dialling k to ∷ [])
-            (inl (q, refl))) d.told d.faults (called k (Some q) (facts_in live))
+            (inl (q, refl))) d.told d.faults (called k (Ok q) (facts_in live))
             (ap (λ (p : Progress). after plan (Dialled k q) (Dialling k to ∷ history) p) s.runs.progress)
             (knows_dialled k q (omega (arith, lt)) (opens q))
             (omega (arith, le), in_order_later _ q history s.runs.ordered (omega (arith, lt)));
         knows = record {
-          companion = knows_tried k to (Some q) (opens q) s.knows.companion;
+          companion = knows_tried k to (Ok q) (opens q) s.knows.companion;
           wc_url = s.knows.wc_url;
           agrees = s.knows.agrees;
         };

@@ -243,7 +243,7 @@ abbrev pub after : Plan → Entry → History → Progress → Progress
 after plan Slept older p = record { facts = record p.facts { asked = None }; place = p.place }
 after plan (Clock w reading) older p = after_clock plan w reading older p
 after plan (Dialled k peer) older p = record { facts = after_dial k peer p.facts; place = Called k }
-after plan (NotDialled k) older p = at (Called k) p
+after plan (NotDialled k failure) older p = at (Called k) p
 after plan (Accepted peer k) older p = opened_if (is_kept k (length p.facts.peers)) peer p.facts
 after plan NoneCame older p = at (welcomed p.facts) p
 after plan (Sent peer bytes) older p = sent p.place p.facts

@@ -16,7 +16,7 @@ use Rattle.css_drive.specs.declared.session.Session.TheVariants as session
 abbrev pub event_line : Event → Option RecordLine
 event_line Slept = Some lines.Slept
 event_line (Turn reading) = Some (lines.Turn reading)
-event_line (Dialled kind peer) = None
+event_line (Dialled kind tried) = None
 event_line (Asked reading) = Some (lines.Ask reading)
 event_line (Landed reading bytes) = Some (lines.Land reading bytes)
 event_line (Heard session.Cii text) = Some (lines.Cii text)

@@ -10,7 +10,7 @@ use css_audit::{RecordLine, print_line};
 use css_companion::{Companion, Report, line};
 use css_drive::{Observes, Session};
 use css_num::{Memory, Text};
-use css_outside::{Clocked, Kind, OutFault, Sink, write_all};
+use css_outside::{Clocked, Failure, Kind, OutFault, Sink, write_all};
 use std::alloc::Global;
 
 /// Writes a line for each event of a run that a report may depend on, and for each report.
@@ -133,7 +133,7 @@ impl<K: Sink> Observes for Recorder<'_, K> {
         self.write(report_lines(self.alloc, clocked, number, report));
     }
 
-    fn dialled(&mut self, _kind: Kind, _peer: Option<u32>) {}
+    fn dialled(&mut self, _kind: Kind, _tried: Result<u32, Failure>) {}
 
     fn asked(&mut self, reading: u64) {
         self.write(line_of(self.alloc, false, RecordLine::Ask { reading }));
