@@ -12,14 +12,15 @@ use Rattle.css_model.specs.Wire.{encoded, request_at}
 use Rattle.css_address.specs.declared.fault.AddressFault.{AddressFault}
 use Rattle.css_cii.specs.declared.name.CiiName.TheVariants.{WcUrl}
 use Rattle.css_cii.specs.declared.state.State.{State}
-use Rattle.css_companion.specs.Meanings.{kind_of, is_ts, opens_ts, state_of}
+use Rattle.css_companion.specs.Meanings.{kind_of, is_ts, opens_ts}
 use Rattle.css_companion.specs.Standing.{Companion}
+use Rattle.css_companion.specs.declared.binding.Binding.TheVariants.{WallClock}
 use Rattle.css_outside.specs.Outsides.{clock_entries, heard_entries}
 use Rattle.css_outside.specs.declared.calls.Clocked.{Clocked}
 use Rattle.css_outside.specs.declared.calls.Heard.{Heard as Answer}
 use Rattle.css_outside.specs.declared.calls.Heard.TheVariants as answer
 use Rattle.css_relay.specs.Lending.{with_companion}
-use Rattle.css_relay.specs.Relays.{relayed_state}
+use Rattle.css_relay.specs.Relays.{relayed_state, state_of}
 use Rattle.css_drive.specs.CompanionDue.{dial_first, dial_to, place, send_to}
 use Rattle.css_drive.specs.CompanionStanding as companions
 use Rattle.css_drive.specs.CompanionStanding.{Shown, GivesPlace, IsRefusal, dial_entries, still}
@@ -313,13 +314,13 @@ module _ (live : Live) {plan : Plan} {start now : Shown} {history : History}
         (ap is_ts its_kind) (λ x. (x.0, All-nil (Came (Closed p ∷ history)), tt)) a).runs
 
     -- what the relay knows then
-    knows : (said : Answer) → Hears session.Cii p said (now_at now live) new
+    knows : (said : Answer) → Hears WallClock session.Cii p said (now_at now live) new
         → (Agrees plan.run.companion.local live.relay.agree history
         → Agrees plan.run.companion.local live.relay.agree (heard_entries p said ++ history))
         → Knows plan (with_companion live.relay new.companion) (heard_entries p said ++ history)
     knows said h agrees = steps.learns s.knows (λ own k. (h.known own history its_kind k).1) agrees
 
-    heard : (said : Answer) → Hears session.Cii p said (now_at now live) new → HearsSo (is_text said)
+    heard : (said : Answer) → Hears WallClock session.Cii p said (now_at now live) new → HearsSo (is_text said)
     heard answer.Quiet h = inl (
       (
         Quiet p ∷ history,
@@ -358,7 +359,8 @@ module _ (live : Live) {plan : Plan} {start now : Shown} {history : History}
 
     refused : (said : Answer) (ended : Driven) → companions.Adds now new.shown (heard_entries p said)
         → new.live ≡ with_answer p said live.own
-        → IsRefusal (refusal_by session.Cii said history) ended → Stops plan start new.shown (with_at live new) ended
+        → IsRefusal (refusal_by WallClock session.Cii said history) ended
+        → Stops plan start new.shown (with_at live new) ended
     refused answer.Quiet ended a same r =
         steps.stops_by_memory (quiet a) (lawful_plain (Quiet p) history (steps.lawful s.knows) refl refl) ended
         (memory ended r)
@@ -370,7 +372,7 @@ module _ (live : Live) {plan : Plan} {start now : Shown} {history : History}
         (ap {A = Own} (λ own. facts_in (record live { own = own })) same) text a ended r
 
   pub goes_hear : (o : Option ℕ) → live.own.cii_open ≡ o → (result : Result Bool Driven)
-      → HearsOnce None session.Cii o (now_at now live) new result
+      → HearsOnce WallClock None session.Cii o (now_at now live) new result
       → MatchResult result HearsSo (Stops plan start new.shown (with_at live new))
   goes_hear None e (Ok told) x =
       subst HearsSo (sym x.0) (inl (subst IsQuiet (sym x.1) (steps.here (steps.asked_next live s None e), refl)))

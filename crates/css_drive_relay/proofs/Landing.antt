@@ -7,7 +7,7 @@ use Rattle.css_agree.specs.Keeping.{Kept}
 use Rattle.css_client.proofs.Judging as judging
 use Rattle.css_client.specs.Landings.{awaited_if, judged_by, judged_of}
 use Rattle.css_client.specs.declared.landing.Landing.TheVariants as landings
-use Rattle.css_companion.specs.Standing.{StandsFor, own_of}
+use Rattle.css_companion.specs.Standing.{own_of}
 use Rattle.css_drive.proofs.CompanionSteps.{knows_plain, lawful_plain}
 use Rattle.css_drive.specs.CompanionStanding.{Shown}
 use Rattle.css_drive.specs.declared.driven.Driven.{Driven}
@@ -28,7 +28,7 @@ use Rattle.css_model.specs.Wire.{decoded}
 use Rattle.css_outside.specs.Outsides.{sleep_entries}
 use Rattle.css_outside.specs.declared.calls.Clocked.{Clocked}
 use Rattle.css_relay.specs.Agreeing.{Agrees, Compares, IsAgreementOf}
-use Rattle.css_relay.specs.Relays.{Relay}
+use Rattle.css_relay.specs.Relays.{Relay, StandsFor}
 use Rattle.css_span.specs.Frontiers.{Answers}
 
 -- after a sleep nothing is asked any more, so nothing contradicts

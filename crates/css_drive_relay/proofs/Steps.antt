@@ -13,14 +13,14 @@ use Rattle.css_model.specs.declared.Kind.{Kind}
 use Rattle.css_model.specs.declared.Failure.{Failure}
 use Rattle.css_model.specs.History.{Dialled, Accepted, History, Entry, Slept, Clock, Address, Dialling, NotDialled}
 use Rattle.css_model.specs.History.{Closed, Gone, Heard, Sent, request_in, NoneCame}
-use Rattle.css_companion.specs.Meanings.{kind_of, opens_ts, is_cii, is_ts, state_of}
+use Rattle.css_companion.specs.Meanings.{kind_of, opens_ts, is_cii, is_ts}
 use Rattle.css_drive.specs.TvRan.{AreBelow, AreNumbered}
 use Rattle.css_drive_relay.specs.Places.{Facts, Progress, next_asked, telling, telling_if, without, Place, after}
 use Rattle.css_drive_relay.specs.Places.{progress_of, Begun, Called, Refused, after_dial, after_clock, Asked, landed}
 use Rattle.css_drive_relay.specs.Places.{landed_at}
 use Rattle.css_drive_relay.specs.Places.{beginning, with_turn, Taken, Received, Served}
 use Rattle.css_drive_relay.specs.Places.{received, answering, Welcomed, welcomed, published, television_told, is_kept}
-use Rattle.css_drive_relay.specs.Places.{opened_if, Asking}
+use Rattle.css_drive_relay.specs.Places.{opened_if, Asking, refusal_of}
 use Rattle.css_drive_relay.specs.Standing.{AreInOrder, KnowsPeers, named, Knows, Runs, Stops, HasRead, facts_in, stood}
 use Rattle.css_drive_relay.specs.Standing.{Stands, IsAt, IsStop, Keeps, Came, visiting}
 use Rattle.css_model.specs.declared.Why.{Why}
@@ -33,7 +33,7 @@ use Rattle.css_agree.specs.Keeping.{Kept}
 use Rattle.css_client.specs.Landings.{judged_of}
 use Rattle.css_relay.specs.Agreeing.{Agrees, IsAgreementOf}
 use Rattle.css_relay.specs.Lending.{with_companion}
-use Rattle.css_relay.specs.Relays.{Relay, relayed_state}
+use Rattle.css_relay.specs.Relays.{Relay, StandsFor, relayed_state, state_of}
 use Rattle.css_drive.specs.CompanionStanding as companions
 use Rattle.css_drive.specs.CompanionStanding.{Shown, Adds, Fails, asked_after, HasDialled, IsEarly, dial_entries}
 use Rattle.css_drive.specs.CompanionStanding.{IsFault, IsRefusal}
@@ -47,7 +47,7 @@ use Rattle.css_drive_relay.specs.Due.{due, due_at, due_for, final, from_taken, f
 use Rattle.css_drive_relay.specs.declared.live.Live.{Live}
 use Rattle.css_drive_relay.specs.declared.sessions.Visit.{Visit}
 use Rattle.css_drive_relay.specs.declared.plan.Plan.{Plan}
-use Rattle.css_drive.specs.CompanionDue.{place, refusal_of, end_by}
+use Rattle.css_drive.specs.CompanionDue.{place, end_by}
 use Rattle.css_cii.specs.declared.state.State.{State}
 use Rattle.css_drive.specs.CompanionTurns.{goes_on, is_late, is_asking}
 use Rattle.css_drive.proofs.CompanionEnds.{never_late, no_entries}
@@ -55,7 +55,8 @@ use Rattle.css_outside.specs.Limits.{IsLimit, most_turns}
 use Rattle.css_outside.specs.declared.limit.Limit.{Limit}
 use Rattle.css_outside.specs.declared.limit.Limit.TheVariants.{Turns, Seconds}
 use Rattle.css_model.specs.WallClock.{Local}
-use Rattle.css_companion.specs.Standing.{Companion, StandsFor, own_of}
+use Rattle.css_companion.specs.Standing.{Companion, own_of}
+use Rattle.css_companion.specs.declared.binding.Binding.TheVariants.{WallClock}
 use Rattle.css_companion.specs.declared.config.CompanionConfig.{CompanionConfig}
 use Rattle.css_drive.specs.declared.companion_live.Live.{Live as Own}
 use Rattle.css_relay.specs.Answers.{Ticket, received_after, answered_after, datagram_of}
@@ -161,7 +162,7 @@ agrees_asleep own agree h false a = a
 module _ {plan : Plan} {relay : Relay} {history : History} (k : Knows plan relay history) where
   -- what its companion learns, and what its answers are then
   pub learns : {is : Companion} {later : History} → ((own : CompanionConfig)
-      → companions.Knows own relay.companion history → companions.Knows own is later)
+      → companions.KnowsUnder WallClock own relay.companion history → companions.KnowsUnder WallClock own is later)
       → (Agrees plan.run.companion.local relay.agree history → Agrees plan.run.companion.local relay.agree later)
       → Knows plan (with_companion relay is) later
   learns learn agrees =
@@ -175,8 +176,8 @@ module _ {plan : Plan} {relay : Relay} {history : History} (k : Knows plan relay
         (sym (counts_aside plan.run.companion.local history entry is)) k.agrees;
   }
     where
-      by : (entry : Entry) → IsAside history entry → companions.Knows plan.run.companion relay.companion
-          (entry ∷ history)
+      by : (entry : Entry) → IsAside history entry
+          → companions.KnowsUnder WallClock plan.run.companion relay.companion (entry ∷ history)
       by Slept is = absurd is
       by (Clock why.Ask reading) is = absurd is
       by (Clock why.Land reading) is = absurd is

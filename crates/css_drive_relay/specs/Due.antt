@@ -7,7 +7,7 @@ use Rattle.css_model.specs.History.{History, request_in}
 use Rattle.css_model.specs.Wire.{encoded, request_at}
 use Rattle.css_cii.specs.declared.name.CiiName.TheVariants.{WcUrl}
 use Rattle.css_sessions.specs.Kept.{full_text}
-use Rattle.css_companion.specs.Meanings.{state_of}
+use Rattle.css_relay.specs.Relays.{state_of}
 use Rattle.css_drive.specs.CompanionDue.{dial_to, dial_first, place, send_to, end_by}
 use Rattle.css_drive.specs.CompanionTurns.{goes_on, is_asking}
 use Rattle.css_drive.specs.Proper.{Due, Now, Accept, SendDatagram, TakeDatagram, TakeText, SendText, HangUp}

@@ -13,12 +13,12 @@ use Rattle.css_cii.specs.States.{empty}
 use Rattle.css_cii.specs.declared.state.State.{State}
 use Rattle.css_sessions.specs.Kept.{difference_text}
 use Rattle.css_client.specs.Landings.{judged_of}
-use Rattle.css_companion.specs.Meanings.{state_of}
+use Rattle.css_companion.specs.declared.binding.Binding.TheVariants.{WallClock}
 use Rattle.css_companion.specs.declared.fault.CompanionFault.{CompanionFault}
 use Rattle.css_relay.specs.Answers.{Ticket, received_after, answered_after, datagram_of}
-use Rattle.css_relay.specs.Relays.{wc_url_of, relayed_state}
+use Rattle.css_relay.specs.Relays.{state_of, wc_url_of, relayed_state}
 use Rattle.css_relay.specs.declared.fault.RelayFault.{RelayFault}
-use Rattle.css_drive.specs.CompanionDue.{refusal_of}
+use Rattle.css_drive.specs.CompanionDue.{refusal_under}
 use Rattle.css_drive.specs.CompanionTurns.{is_late}
 use Rattle.css_drive.specs.declared.parting.Parting.{Parting}
 use Rattle.css_drive.specs.declared.parting.Parting.TheVariants as parting
@@ -190,6 +190,10 @@ opened_if false peer f = record { facts = f; place = Rejecting peer }
 abbrev pub published : State → Facts → Progress
 published state f = let now : Facts = record f { state = state } in
     record { facts = now; place = telling_if (difference_text f.state state) now }
+
+-- the fault of a text of the television after a history, if it is refused: the wall clock's address alone binds a relay
+abbrev pub refusal_of : Option (List ℕ) → History → Option CompanionFault
+refusal_of text older = refusal_under WallClock text older
 
 -- A text of the television is refused, or the relay publishes what it tells after it.
 abbrev pub television_told : Option CompanionFault → State → Facts → Progress

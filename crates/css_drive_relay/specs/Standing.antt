@@ -10,6 +10,7 @@ use Rattle.css_outside.specs.Outsides.{Counts, with_entries}
 use Rattle.css_outside.specs.declared.calls.Clocked.{Clocked}
 use Rattle.css_companion.specs.Meanings.{kind_of}
 use Rattle.css_companion.specs.Standing.{Companion}
+use Rattle.css_companion.specs.declared.binding.Binding.TheVariants.{WallClock}
 use Rattle.css_drive.specs.declared.companion_live.Live.{Live as Own}
 use Rattle.css_relay.specs.Agreeing.{Agrees}
 use Rattle.css_relay.specs.Lending.{with_companion}
@@ -50,7 +51,7 @@ facts_in live = record {
 
 -- the relay is the configuration's, its companion stands for the history, and so does the agreement of its answers
 pub record Knows (plan : Plan) (relay : Relay) (history : History) : Type 0 where
-  pub companion : companions.Knows plan.run.companion relay.companion history
+  pub companion : companions.KnowsUnder WallClock plan.run.companion relay.companion history
   pub wc_url : relay.wc_url ≡ wc_url_of plan.run.host plan.run.port
   pub agrees : Agrees plan.run.companion.local relay.agree history
 

@@ -5,15 +5,13 @@ use Rattle.css_model.specs.History.{Entry, History, Accepted, Heard}
 use Rattle.css_cii.specs.States.{empty}
 use Rattle.css_cii.specs.declared.state.State.{State}
 use Rattle.css_sessions.specs.Told.{cii_texts}
-use Rattle.css_companion.specs.Meanings.{state_of}
 use Rattle.css_companion.specs.declared.fault.CompanionFault.{CompanionFault}
-use Rattle.css_relay.specs.Relays.{wc_url_of, relayed_state}
-use Rattle.css_drive.specs.CompanionDue.{refusal_of}
+use Rattle.css_relay.specs.Relays.{state_of, wc_url_of, relayed_state}
 use Rattle.css_drive.specs.Proper.{Ends}
 use Rattle.css_drive.specs.TvRan.{AreNumbered}
 use Rattle.css_drive.specs.TvTold.{sent_to, is_gone, lost}
 use Rattle.css_drive.specs.declared.driven.Driven.{Driven}
-use Rattle.css_drive_relay.specs.Places.{Place, Welcomed, is_kept, progress_of}
+use Rattle.css_drive_relay.specs.Places.{Place, Welcomed, is_kept, progress_of, refusal_of}
 use Rattle.css_drive_relay.specs.Due.{due, IsProperRelay}
 use Rattle.css_drive_relay.specs.declared.plan.Plan.{Plan}
 

@@ -3,11 +3,12 @@ ghost use Rattle.std.specs.Prelude.{◌≡◌, ◌≤◌, OnOk, None};
 ghost use Rattle.css_outside.specs.Faults.{HasRisen};
 ghost use Rattle.css_drive.specs.CompanionStanding as companions;
 ghost use Rattle.css_drive.specs.CompanionStanding.{shown, Calls, HasRead};
+ghost use Rattle.css_companion.specs.declared.binding.Binding.TheVariants.{WallClock};
 ghost use Rattle.css_drive.specs.Stages.{HearsOnce, at, at_of};
 ghost use Rattle.css_drive.specs.declared.session.Session.TheVariants as sessions;
 ghost use Rattle.css_drive_relay.specs.Standing.{DialsAndAsks, HasDialled, Stays, UnlessFault};
 
-use css_companion::Companion;
+use css_companion::{Binding, Companion};
 use css_drive::{Driven, Live as Own, Run, Session};
 use css_outside::{Address, Clocked, Outside, Why};
 use std::alloc::Global;
@@ -89,7 +90,7 @@ pub fn hear<O: Outside>(
     outside: &mut O,
     own: &mut Own,
 ) -> Result<bool, Driven>
-    ensures called { HearsOnce None sessions.Cii own.old.cii_open
+    ensures called { HearsOnce WallClock None sessions.Cii own.old.cii_open
         (at_of (shown (O.told outside.old) (O.counts outside.old)) own.old companion.old)
         (at_of (shown (O.told outside.new) (O.counts outside.new)) own.new companion.new) result }
     ensures stays { Stays (O.counts outside.old) (O.counts outside.new) own.old own.new companion.old companion.new
@@ -102,5 +103,5 @@ pub fn hear<O: Outside>(
         observer: &mut (),
         live: own,
     };
-    run.hear(Session::Cii)
+    run.hear(Session::Cii, Binding::WallClock)
 }

@@ -1,9 +1,8 @@
 use Rattle.std.proofs.Common.{refl, sym, subst, ◌∷◌}
-use Rattle.css_companion.specs.Standing.{StandsFor}
 use Rattle.css_drive.proofs.CompanionSteps.{at_err}
 use Rattle.css_model.specs.History.{Took}
 use Rattle.css_outside.specs.declared.calls.Clocked.{Clocked}
-use Rattle.css_relay.specs.Relays.{Relay}
+use Rattle.css_relay.specs.Relays.{Relay, StandsFor}
 use Rattle.css_drive_relay.proofs.Landing as landing
 use Rattle.css_drive_relay.proofs.Steps as steps
 use Rattle.css_drive_relay.proofs.stages.land.Goals as goal
