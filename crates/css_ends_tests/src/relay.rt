@@ -3,11 +3,11 @@
 ghost use Rattle.std.specs.Prelude.{◌≡◌, ◌≤◌, ◌<◌};
 
 use crate::common::{EXACT, check, check_order, check_that, datagram, text, words};
-use css_cii::{full, write_message};
+use css_cii::{CiiName, full, write_message};
 use css_client::Landing;
 use css_model::{LIMIT, WcFault};
 use css_num::{Span, Text};
-use css_relay::{CompanionConfig, CompanionEvent, Relay, RelayFault};
+use css_relay::{CompanionConfig, CompanionEvent, CompanionFault, Relay, RelayFault};
 use std::alloc::Global;
 use std::process::Abort;
 
@@ -83,14 +83,21 @@ const REFUSED: [Row; 8] = [
     (&[FIRST], (32, [0, 1]), 1600, 1600, Err(RelayFault::NotARequest)),
 ];
 
-/// A CII text, and the state that a relay tells after it.
+/// CII texts, and the state that a relay tells after them.
 #[rattlefmt::skip]
-const STATES: [(&str, &str); 2] = [
-    ("{}", "{\"contentId\":null,\"contentIdStatus\":null,\"mrsUrl\":null,\"presentationStatus\":null,\
+const STATES: [(&[&str], &str); 4] = [
+    (&["{}"], "{\"contentId\":null,\"contentIdStatus\":null,\"mrsUrl\":null,\"presentationStatus\":null,\
          \"protocolVersion\":null,\"teUrl\":null,\"timelines\":null,\"tsUrl\":null,\"wcUrl\":null}"),
-    ("{\"wcUrl\":\"udp://10.0.0.1:6677\",\"contentId\":\"dvb://1.2.3\"}",
+    (&["{\"wcUrl\":\"udp://10.0.0.1:6677\",\"contentId\":\"dvb://1.2.3\"}"],
         "{\"contentId\":\"dvb://1.2.3\",\"contentIdStatus\":null,\"mrsUrl\":null,\"presentationStatus\":null,\
          \"protocolVersion\":null,\"teUrl\":null,\"timelines\":null,\"tsUrl\":null,\"wcUrl\":\"udp://10.0.0.2:6690\"}"),
+    // A relay opens no CSS-TS, so the address of that may move, and be none.
+    (&["{\"tsUrl\":\"ws://10.0.0.1:6678/ts\"}", "{\"tsUrl\":\"ws://10.0.0.3/ts\",\"contentId\":\"dvb://1.2.3\"}"],
+        "{\"contentId\":\"dvb://1.2.3\",\"contentIdStatus\":null,\"mrsUrl\":null,\"presentationStatus\":null,\
+         \"protocolVersion\":null,\"teUrl\":null,\"timelines\":null,\"tsUrl\":\"ws://10.0.0.3/ts\",\"wcUrl\":null}"),
+    (&["{\"tsUrl\":\"none\"}"], "{\"contentId\":null,\"contentIdStatus\":null,\"mrsUrl\":null,\
+         \"presentationStatus\":null,\"protocolVersion\":null,\"teUrl\":null,\"timelines\":null,\
+         \"tsUrl\":\"none\",\"wcUrl\":null}"),
 ];
 
 /// A relay of a timeline's television, at port 6690 of a host.
@@ -192,19 +199,49 @@ fn each_row_is_answered(rt: HostRuntime) {
     check_rows(&rt, rt.alloc(), &REFUSED);
 }
 
-/// The text of the state that the relay tells its companions after a text of the television.
-fn relayed_after(rt: &impl Abort, alloc: Global, told: &str) -> Text {
+/// The relay hears a text of the television.
+fn tell(
+    rt: &impl Abort,
+    alloc: Global,
+    relay: &mut Relay,
+    told: &str,
+) -> Result<Option<Text>, CompanionFault> {
+    relay.step(CompanionEvent::CiiText(text(rt, alloc, told)))
+}
+
+/// The text of the state that the relay tells its companions after these texts of the television.
+fn relayed_after(rt: &impl Abort, alloc: Global, texts: &[&str]) -> Text {
     let mut relay = new_relay(rt, alloc);
-    let event = CompanionEvent::CiiText(text(rt, alloc, told));
-    let _ = relay.step(event).expect(rt, "no fault");
+    for told in texts {
+        let _ = tell(rt, alloc, &mut relay, told).expect(rt, "no fault");
+    }
     let state = relay.relayed().expect(rt, "memory");
     write_message(alloc, &full(&state).expect(rt, "memory")).expect(rt, "memory")
 }
 
 #[test]
 fn the_relay_tells_its_own_address(rt: HostRuntime) {
-    for (place, (told, expected)) in STATES.iter().enumerate() {
-        let relayed = relayed_after(&rt, rt.alloc(), told);
+    for (place, (texts, expected)) in STATES.iter().enumerate() {
+        let relayed = relayed_after(&rt, rt.alloc(), texts);
         check(&rt, place, words(&relayed), expected);
+    }
+}
+
+#[test]
+fn the_wall_clock_that_a_relay_goes_by_may_not_move(rt: HostRuntime) {
+    let mut relay = new_relay(&rt, rt.alloc());
+    for (told, moves) in [
+        ("{\"wcUrl\":\"udp://10.0.0.1:6677\"}", false),
+        ("{\"wcUrl\":\"udp://10.0.0.1:7000\"}", true),
+    ] {
+        let heard = tell(&rt, rt.alloc(), &mut relay, told);
+        let refused = matches!(
+            &heard,
+            Err(CompanionFault::Moved {
+                property: CiiName::WcUrl,
+                ..
+            })
+        );
+        check_that(&rt, refused == moves && heard.is_err() == moves, told);
     }
 }

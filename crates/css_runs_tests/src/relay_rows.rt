@@ -22,6 +22,10 @@ const AHEAD: &[u8] =
 const FALSE: &[u8] =
     b"\0\x01\xe2\0\0\0\0\0\0\0\0\0\0\0\x07\xd0\0\0\0\0\0\0\x23\x28\0\0\0\0\0\0\x23\x28";
 
+/// The response to a request of 2700, received at 6700 and sent at 6900.
+const THIRD: &[u8] =
+    b"\0\x01\xe2\0\0\0\0\0\0\0\0\0\0\0\x0a\x8c\0\0\0\0\0\0\x1a\x2c\0\0\0\0\0\0\x1a\xf4";
+
 /// The television's addresses.
 #[rattlefmt::skip]
 const ADDRESSES: Option<&str> =
@@ -89,6 +93,16 @@ pub const TEXTS: &[Row] = &[
     Row { name: "an address that is none", turns: 3, texts: &[(1, Some("{\"wcUrl\":\"ws://127.0.0.1:6677\"}"))],
         told: "SERVE; turn; dial; take; accept; text 1; turn; hang 1; turn; dial; take; accept; text 2; hang 2",
         ..QUIET },
+    Row { name: "a tsUrl that moves is told on, and ends nothing", turns: 2, openings: &[Some(Kind::Cii)],
+        texts: &[(1, ADDRESSES), (1, Some("{\"presentationStatus\":\"okay\",\"tsUrl\":\"ws://127.0.0.1:7000/ts\"}"))],
+        told: "SERVE; turn; dial; take; accept; say 2 UNKNOWN; text 1; say 2 OWN; text 2; \
+            turn; dial; other; send 3 0 0 0; take; accept; text 1; \
+            say 2 {\"presentationStatus\":\"okay\",\"tsUrl\":\"ws://127.0.0.1:7000/ts\"}; text 2; hang 2; hang 1",
+        ..QUIET },
+    Row { name: "so is a tsUrl that is no address", turns: 2, openings: &[Some(Kind::Cii)],
+        texts: &[(1, Some("{\"tsUrl\":\"none\"}"))],
+        told: "SERVE; turn; dial; take; accept; say 2 UNKNOWN; text 1; say 2 {\"tsUrl\":\"none\"}; text 2; \
+            turn; take; accept; text 1; text 2; hang 2; hang 1", ..QUIET },
     Row { name: "an accepted session is told the state, and then the relay's own address",
         openings: &[Some(Kind::Cii)], texts: &[(1, ADDRESSES)],
         told: "SERVE; turn; dial; take; accept; say 2 UNKNOWN; text 1; say 2 OWN; text 2; hang 2; hang 1", ..QUIET },
@@ -149,6 +163,16 @@ pub const VISITS: &[Row] = &[
             turn; dial; other; send 3 0 0 0; take; other; accept; text 1; say 2 {\"presentationStatus\":\"okay\"}; \
             text 2; turn; other; send 3 0 0 0; take; other; hang 2; hang 1; \
             turn; dial; take; accept; text 4; hang 4", ..QUIET },
+    Row { name: "and the next answer to a request goes by the second visit alone", turns: 6,
+        times: &[900, 950, 1000, 1600, 2000, 2000, 2100, 2100, 2100, 2700, 2700, 3300, 3300, 3300, 3400],
+        datagrams: &[b"", RESPONSE, FALSE, REQUEST, THIRD, REQUEST], openings: &[Some(Kind::Cii)],
+        texts: &[(1, ADDRESSES), (1, OKAY), (3, ADDRESSES)],
+        told: "SERVE; turn; dial; take; accept; say 2 UNKNOWN; text 1; say 2 OWN; text 2; \
+            turn; dial; other; send 3 0 0 0; take; other; accept; text 1; say 2 {\"presentationStatus\":\"okay\"}; \
+            text 2; turn; other; send 3 0 0 0; take; other; hang 2; hang 1; \
+            turn; dial; take; receive; accept; text 4; \
+            turn; dial; other; send 5 0 0 0; take; other; accept; text 4; \
+            turn; take; receive; give; send 9 1 7100 7200; accept; text 4; hang 4", ..QUIET },
     Row { name: "a sleep lies between them, so they don't contradict each other", slept: &[1900],
         told: "SERVE; turn; dial; take; accept; say 2 UNKNOWN; text 1; say 2 OWN; text 2; \
             turn; dial; other; send 3 0 0 0; take; other; accept; text 1; say 2 {\"presentationStatus\":\"okay\"}; \
