@@ -18,14 +18,14 @@ use Rattle.css_drive.specs.Ends as drive
 use Rattle.css_drive.specs.Notes.{noted}
 use Rattle.css_drive.specs.declared.driven.Driven.{Driven}
 use Rattle.css_drive.specs.declared.driven.Driven.TheVariants as driven
-use Rattle.css_watch_lines.specs.Lines.{line_text, Ended}
+use Rattle.css_watch_lines.specs.Lines.{line_text}
 use Rattle.css_watch.specs.Following.{BreaksOff, CountsWrites, GoesOn, IsRun, IsWhole, Leaves, Makes}
 use Rattle.css_watch.specs.Following.{IsQuiet, LeavesAll, Parts, Saw, Stage}
-use Rattle.css_watch.specs.Progress.{fresh, told_number, with_visit}
+use Rattle.css_watch.specs.Progress.{fresh, with_visit}
 use Rattle.css_watch.specs.Telling.{Told, told_of, text_of}
 use Rattle.css_drive.specs.Visits.{Visit, why}
 use Rattle.css_watch.specs.Visits.{CountsNetFault, CountsWriteFault, Hangs, HoldsAll, IsFault, IsVisit, end_of}
-use Rattle.css_watch.specs.Visits.{EndsAtCause, end_text, Fails, IsFaultAfter, IsOlderPart, hang_ups_after}
+use Rattle.css_watch.specs.Visits.{EndsAtCause, end_line, end_text, Fails, IsFaultAfter, IsOlderPart, hang_ups_after}
 use Rattle.css_watch.specs.Visits.{by_reports, fault_of, unwritten, hang_ups, last_end, told_in, visit_text}
 use Rattle.css_watch.specs.declared.ending.Watched.{Watched}
 use Rattle.css_watch.specs.declared.ending.Watched.TheVariants as watched
@@ -176,11 +176,10 @@ unwritten_fails told history = record { fault = by told.parting; hangs = none_hu
 -- the text of a visit that another one follows
 text_so : (told : Told) (parting : Option Parting) (ended : Driven) (progress : Progress) (words : List ℕ)
     → progress ≡ told.progress → told.parting ≡ parting → why ended parting ≡ Some words
-    → line_text (Ended (told_number progress.begun.visits) words)
-    ≡ end_text told.progress.begun (why ended told.parting)
+    → line_text (end_line progress words)
+    ≡ end_text told.progress (why ended told.parting)
 text_so told parting ended progress words p t e =
-    ap (λ x. end_text x.begun (Some words)) p
-    ∙ ap (end_text told.progress.begun) (sym (ap (why ended) t ∙ e))
+    ap (λ x. end_text x (Some words)) p ∙ ap (end_text told.progress) (sym (ap (why ended) t ∙ e))
 
 pub holds_on : (a b c : Option (List ℕ)) (bytes more : List ℕ) (result : Watched) → Appends a b bytes
     → HoldsAll b c more result → HoldsAll a c (bytes ++ more) result
@@ -295,7 +294,7 @@ unsaid : (plan : Plan) (begun : Begun) (history hung : History) (ended : Driven)
     hung ended)).lines
 unsaid plan begun history hung ended e =
     let told = told_in plan begun (visit_of history hung ended) in
-    ap (λ x. text_of told.lines ++ end_text told.progress.begun x) e ∙ append-nil (text_of told.lines)
+    ap (λ x. text_of told.lines ++ end_text told.progress x) e ∙ append-nil (text_of told.lines)
 
 -- a count that only a fault of the outside raises
 counts_as : (before now : ℕ) (ended : Driven) (begun : Begun) → now ≡ before
@@ -560,7 +559,7 @@ hangs_on a b c f m n first second result p q = record {
 -- it was told in part
 pub unwritten_breaks : (progress : Progress) (words : List ℕ) (start now : Stage) (cause : OutFault) {bytes : List ℕ}
     (result : Watched) → result ≡ unwritten cause
-    → bytes ≡ line_text (Ended (told_number progress.begun.visits) words)
+    → bytes ≡ line_text (end_line progress words)
     → AppendsPrefix start.holds now.holds bytes × CountsOutFault start.writes now.writes cause → now.told ≡ start.told
     → now.faults ≡ start.faults → BreaksOff progress words start now result
 unwritten_breaks progress words start now cause {bytes} result is e w told same =
@@ -569,7 +568,7 @@ unwritten_breaks progress words start now cause {bytes} result is e w told same 
     subst P (sym is) (by cause (subst Q e w.0) w.1)
   where
     by : (cause : OutFault)
-        → AppendsPrefix start.holds now.holds (line_text (Ended (told_number progress.begun.visits) words))
+        → AppendsPrefix start.holds now.holds (line_text (end_line progress words))
         → CountsOutFault start.writes now.writes cause → BreaksOff progress words start now (unwritten cause)
     by (fault.Failed failure) wrote counted = record {
       fault = tt;
@@ -592,7 +591,7 @@ unwritten_breaks progress words start now cause {bytes} result is e w told same 
 
 -- it was told, and all sessions were hung up
 pub goes_on : (progress : Progress) (words : List ℕ) (start now : Stage) {bytes : List ℕ} {done : Unit {0}}
-    → bytes ≡ line_text (Ended (told_number progress.begun.visits) words)
+    → bytes ≡ line_text (end_line progress words)
     → Appends start.holds now.holds bytes × (now.writes ≡ start.writes)
     → Hangs start.told now.told start.faults now.faults (hang_ups progress) (Ok done)
     → GoesOn progress words start now progress.begun
@@ -609,7 +608,7 @@ goes_on progress words start now e w h =
 -- it was told, and a hang-up failed
 pub unhung_breaks : (progress : Progress) (words : List ℕ) (start now : Stage) (cause : OutFault) {bytes : List ℕ}
     (result : Watched) → result ≡ fault_of cause
-    → bytes ≡ line_text (Ended (told_number progress.begun.visits) words)
+    → bytes ≡ line_text (end_line progress words)
     → Appends start.holds now.holds bytes × (now.writes ≡ start.writes)
     → Hangs start.told now.told start.faults now.faults (hang_ups progress) (Err cause)
     → BreaksOff progress words start now result
@@ -619,7 +618,7 @@ unhung_breaks progress words start now cause {bytes} result is e w h =
     subst P (sym is) (by cause (subst Q e w.0) h.faults)
   where
     by : (cause : OutFault)
-        → Appends start.holds now.holds (line_text (Ended (told_number progress.begun.visits) words))
+        → Appends start.holds now.holds (line_text (end_line progress words))
         → CountsOutFault start.faults now.faults cause → BreaksOff progress words start now (fault_of cause)
     by (fault.Failed failure) wrote counted = record {
       fault = tt;

@@ -90,7 +90,7 @@ step_of plan reading bytes history companion answers was is old new over parting
     record {
       says = subst W (a.parting_so ∙ ap (λ x. parting_at own reading x answers) e)
           (subst T e (says (text_of (landing_line own reading bytes result ∷ slept_lines reading was)) said));
-      progress_so = went ∙ ap (λ x. after_landing x was) e;
+      progress_so = λ none. went ∙ ap (λ x. after_landing x was) e;
       agree_so = λ none. subst N (sym same) (subst J e (record { local = a.local; stands = a.stands }));
     }
 
@@ -114,7 +114,7 @@ failed_of plan reading bytes history companion answers was is new over parting h
         parting_so = p;
         wrote = (subst P (sym h) (no_prefix held _), n);
       };
-      progress_so = went ∙ ap (λ x. after_landing x was) (judged_so plan reading bytes history companion
+      progress_so = λ none. went ∙ ap (λ x. after_landing x was) (judged_so plan reading bytes history companion
           result k judges);
       agree_so = λ none. absurd (cc);
     }

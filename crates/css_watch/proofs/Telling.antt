@@ -130,7 +130,7 @@ step_on plan start from event notes was is old new over parting held mid holds b
         notes).answers
         → over ≡ over_by cause wanted → parting ≡ parting_by cause wanted
         → Writes cause mid holds m now (text_of (lines_by plan event from.history (told_of plan start notes).progress))
-        → is ≡ progress_after plan event from.history (told_of plan start notes).progress
+        → (cause ≡ None → is ≡ progress_after plan event from.history (told_of plan start notes).progress)
         → (cause ≡ None → IsOf plan new (answers_after plan event from.history (told_of plan start notes).answers))
         → IsTelling plan start over parting is new held holds before now (Happened from event ∷ notes)
     by None None w o p wrote progress agree =
@@ -139,7 +139,7 @@ step_on plan start from event notes was is old new over parting held mid holds b
         let Q : Option Parting → Type 0 = λ x. IsToldBy plan (told_of plan start (Happened from event ∷ notes)) None x
         is new held holds before now in
         subst P (sym o) (subst Q (sym p) (record {
-          progress_so = progress;
+          progress_so = progress refl;
           agree_so = agree refl;
           parting_so = ap (λ x. option_or x (telling.parting_by plan event from.history (told_of plan start
               notes).progress (told_of plan start notes).answers)) g.parting_so ∙ sym w;
@@ -154,7 +154,7 @@ step_on plan start from event notes was is old new over parting held mid holds b
         subst P (sym o) (subst Q (sym p) (
           refl,
           record {
-            progress_so = progress;
+            progress_so = progress refl;
             parting_so = ap (λ x. option_or x (telling.parting_by plan event from.history (told_of plan start
                 notes).progress (told_of plan start notes).answers)) g.parting_so ∙ sym w;
             wrote = lines_on None held mid holds before m now (lines_by plan event from.history (told_of plan

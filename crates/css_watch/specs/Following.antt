@@ -9,12 +9,12 @@ use Rattle.css_drive.specs.Ends as drive
 use Rattle.css_drive.specs.Notes.{noted}
 use Rattle.css_drive.specs.declared.driven.Driven.{Driven}
 use Rattle.css_drive.specs.declared.driven.Driven.TheVariants as driven
-use Rattle.css_watch_lines.specs.Lines.{line_text, Ended}
-use Rattle.css_watch.specs.Progress.{fresh, told_number, with_visit}
+use Rattle.css_watch_lines.specs.Lines.{line_text}
+use Rattle.css_watch.specs.Progress.{fresh, with_visit}
 use Rattle.css_watch.specs.Telling.{Told, told_of, text_of}
 use Rattle.css_drive.specs.Visits.{AreFollowed, IsFollowed, Visit, begun_after, entries_of}
 use Rattle.css_watch.specs.Visits.{IsVisit, IsLast, IsFault, HoldsAll, told_in, visit_text, hang_ups, visits_of}
-use Rattle.css_watch.specs.Visits.{IsOlderPart}
+use Rattle.css_watch.specs.Visits.{IsOlderPart, end_line}
 use Rattle.css_watch.specs.Visits.{CountsDialFaults, CountsNetFault, CountsWriteFault, written}
 use Rattle.css_watch.specs.declared.ending.Watched.{Watched}
 use Rattle.css_watch.specs.declared.ending.Watched.TheVariants as watched
@@ -83,7 +83,7 @@ pub record GoesOn (progress : Progress) (words : List ℕ) (start now : Stage) (
   pub next_so : next ≡ progress.begun
   pub told : now.told ≡ with_entries (hang_ups progress) start.told
   pub faults : now.faults ≡ start.faults
-  pub wrote : Appends start.holds now.holds (line_text (Ended (told_number progress.begun.visits) words))
+  pub wrote : Appends start.holds now.holds (line_text (end_line progress words))
   pub writes : now.writes ≡ start.writes
 
 -- a fault came between
@@ -93,7 +93,7 @@ pub record BreaksOff (progress : Progress) (words : List ℕ) (start now : Stage
   pub told : now.told ≡ with_entries entries start.told
   pub hangs : IsOlderPart entries (hang_ups progress)
   pub faults : CountsNetFault start.faults now.faults result
-  pub wrote : HoldsAll start.holds now.holds (line_text (Ended (told_number progress.begun.visits) words)) result
+  pub wrote : HoldsAll start.holds now.holds (line_text (end_line progress words)) result
   pub writes : CountsWriteFault start.writes now.writes result
 
 abbrev pub Parts : Progress → List ℕ → Stage → Stage → Visited → Type 0

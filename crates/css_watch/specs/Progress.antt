@@ -1,12 +1,19 @@
 -- How far a visit of a watch came, by what its observer was told.
 use Rattle.std.specs.Prelude.{ℕ, ◌+◌, ◌-◌, ◌^◌, min, List, Bool, true, false, not, ◌&&◌, ◌||◌, if◌then◌else◌, is_some}
 use Rattle.std.specs.Prelude.{Option, Some, None, unwrap_or, Result, Ok, Err}
+use Rattle.std.specs.Result.{is_ok}
+use Rattle.css_model.specs.declared.Failure.{Failure}
 use Rattle.css_model.specs.declared.Kind.{Kind}
 use Rattle.css_model.specs.declared.Kind.TheVariants as kind
 use Rattle.css_model.specs.History.{History}
 use Rattle.css_model.specs.WallClock.{Answer}
 use Rattle.css_client.specs.Landings.{judged_of}
 use Rattle.css_client.specs.declared.landing.Landing.{Landing}
+use Rattle.css_cii.specs.declared.state.State.{State}
+use Rattle.css_companion.specs.Contents.{next_number, told}
+use Rattle.css_companion.specs.Meanings.{texts_of, state_of}
+use Rattle.css_companion.specs.declared.fault.CompanionFault.{CompanionFault}
+use Rattle.css_companion.specs.declared.fault.CompanionFault.TheVariants as fault
 use Rattle.css_companion.specs.declared.report.Report.{Report}
 use Rattle.css_companion.specs.declared.report.Report.TheVariants as report
 use Rattle.css_drive.specs.CompanionReports.{is_due, report_at}
@@ -51,6 +58,7 @@ fresh begun = record {
   asked = false;
   waiting = 0;
   refused = None;
+  unread = None;
 }
 
 -- ---- turns and reports
@@ -93,7 +101,7 @@ after_sleep progress = record progress { slept = true; asked = false; waiting = 
 
 abbrev pub is_open : Tried → Bool
 is_open Never = false
-is_open Failed = false
+is_open (Failed failure) = false
 is_open Open = true
 
 -- whether CSS-TS was open and isn't any more
@@ -109,25 +117,25 @@ after_turn reading due progress = record progress {
   ts_closed = has_closed_ts progress;
 }
 
-abbrev pub tried_by : Option ℕ → Tried
-tried_by None = Failed
-tried_by (Some peer) = Open
+abbrev pub tried_by : Result ℕ Failure → Tried
+tried_by (Err failure) = Failed failure
+tried_by (Ok peer) = Open
 
 -- the peer of a session that a dial opened, else the one that was open
-abbrev pub opened_by : Option ℕ → Option ℕ → Option ℕ
-opened_by None was = was
-opened_by (Some peer) was = Some peer
+abbrev pub opened_by : Result ℕ Failure → Option ℕ → Option ℕ
+opened_by (Err failure) was = was
+opened_by (Ok peer) was = Some peer
 
-abbrev pub after_dial : Kind → Option ℕ → Progress → Progress
-after_dial kind.Cii peer progress = record progress {
-  begun = with_dial (is_some peer) progress.begun;
-  cii = tried_by peer;
-  cii_open = opened_by peer progress.cii_open;
+abbrev pub after_dial : Kind → Result ℕ Failure → Progress → Progress
+after_dial kind.Cii tried progress = record progress {
+  begun = with_dial (is_ok tried) progress.begun;
+  cii = tried_by tried;
+  cii_open = opened_by tried progress.cii_open;
 }
-after_dial kind.Wc peer progress = record progress { wc = tried_by peer }
-after_dial kind.Ts peer progress = record progress {
-  ts = tried_by peer;
-  ts_open = opened_by peer progress.ts_open;
+after_dial kind.Wc tried progress = record progress { wc = tried_by tried }
+after_dial kind.Ts tried progress = record progress {
+  ts = tried_by tried;
+  ts_open = opened_by tried progress.ts_open;
 }
 
 abbrev pub after_request : Progress → Progress
@@ -145,6 +153,17 @@ abbrev pub after_end : Session → Progress → Progress
 after_end session.Cii progress = record progress { cii_open = None }
 after_end session.Ts progress = record progress { ts_open = None }
 
+-- a text of CSS-CII that is refused for what it says
+abbrev pub unread_by : Result State CompanionFault → List ℕ → Option (List ℕ)
+unread_by (Err (fault.BadCii number reason)) text = Some text
+unread_by _ text = None
+
+abbrev pub after_text : Session → List ℕ → History → Progress → Progress
+after_text session.Cii text history progress = record progress {
+  unread = unread_by (told (next_number (texts_of history)) (state_of history) text) text;
+}
+after_text session.Ts text history progress = progress
+
 -- what a datagram tells that lands at this reading after a history
 abbrev pub judged : Plan → History → ℕ → List ℕ → Result Answer Landing
 judged plan history reading bytes = judged_of plan.run.companion.local history reading bytes
@@ -153,9 +172,9 @@ abbrev pub progress_after : Plan → Event → History → Progress → Progress
 progress_after plan Slept history progress = after_sleep progress
 progress_after plan (Turn reading) history progress =
     after_turn reading (report_due plan reading history progress.begun) progress
-progress_after plan (Dialled kind peer) history progress = after_dial kind peer progress
+progress_after plan (Dialled kind tried) history progress = after_dial kind tried progress
 progress_after plan (Asked reading) history progress = after_request progress
 progress_after plan (Landed reading bytes) history progress =
     after_landing (judged plan history reading bytes) progress
-progress_after plan (Heard which text) history progress = progress
+progress_after plan (Heard which text) history progress = after_text which text history progress
 progress_after plan (Closed which) history progress = after_end which progress

@@ -1,7 +1,10 @@
 -- What a visit of a watch tells, line by line, and when its observer ends it.
-use Rattle.std.specs.Prelude.{ℕ, nat_lt, ◌-ℤ◌, List, [], ◌∷◌, ◌++◌, Bool, true, false, not, ◌&&◌, is_some}
-use Rattle.std.specs.Prelude.{if◌then◌else◌, Option, Some, None, unwrap_or, Result, Ok, Err, codes, decimal}
+use Rattle.std.specs.Prelude.{ℕ, nat_lt, ◌-ℤ◌, List, [], ◌∷◌, ◌++◌, take, Bool, true, false, not, ◌&&◌, is_some}
+use Rattle.std.specs.Prelude.{if◌then◌else◌, Option, Some, None, unwrap_or, Result, Ok, Err, codes, decimal, bytes_eq}
+use Rattle.std.specs.List.{list_any}
 use Rattle.std.specs.Option.{option_or}
+use Rattle.std.specs.Result.{result_err}
+use Rattle.css_model.specs.declared.Failure.{Failure}
 use Rattle.css_model.specs.declared.Kind.{Kind}
 use Rattle.css_model.specs.declared.Kind.TheVariants as kind
 use Rattle.css_model.specs.declared.Message.{Message}
@@ -10,12 +13,15 @@ use Rattle.css_model.specs.History.{History, accepted_answers, wall_answer}
 use Rattle.css_model.specs.WallClock.{Answer, Local, lo, hi}
 use Rattle.css_model.specs.Wire.{decoded}
 use Rattle.css_num.specs.Spans.{Interval}
+use Rattle.css_num.specs.declared.control.Control.{Control}
+use Rattle.css_num.specs.declared.timeline.Timeline.{Timeline}
 use Rattle.css_outside.specs.Limits.{is_over}
 use Rattle.css_span.specs.Frontiers.{Answers}
 use Rattle.css_span.specs.WallSpans.{wall_span}
 use Rattle.css_agree.specs.Disagreements.{disagree}
 use Rattle.css_cii.specs.declared.state.State.{State}
 use Rattle.css_tsmsg.specs.Controls.{control_of}
+use Rattle.css_tsmsg.specs.declared.fault.TsFault.{TsFault}
 use Rattle.css_client.specs.Landings.{with_judged}
 use Rattle.css_client.specs.declared.landing.Landing.{Landing}
 use Rattle.css_companion.specs.Contents.{next_number, told}
@@ -30,9 +36,10 @@ use Rattle.css_drive.specs.CompanionReports.{report_at}
 use Rattle.css_drive.specs.Notes.{Event, Slept, Turn, Dialled, Asked, Landed, Heard, Closed, Note, Happened, Reported}
 use Rattle.css_drive.specs.declared.session.Session.{Session}
 use Rattle.css_drive.specs.declared.session.Session.TheVariants as session
-use Rattle.css_watch_lines.specs.Lines.{Line, Visit, Dial, StateTold, ControlTold, Answered, Refused, SleptAt, Known}
-use Rattle.css_watch_lines.specs.Lines.{Unknown, line_text}
-use Rattle.css_watch_lines.specs.Words.{landing_words}
+use Rattle.css_watch_lines.specs.Lines.{Line, Visit, Dial, StateTold, ControlTold, Unread, Answered, Refused}
+use Rattle.css_watch_lines.specs.Lines.{SleptAt, Known, Unknown, line_text}
+use Rattle.css_watch_lines.specs.Fronts.{front_of}
+use Rattle.css_watch_lines.specs.Words.{failure_words, landing_words}
 use Rattle.css_watch_lines.specs.declared.known.Known.{Known as Ticking}
 use Rattle.css_watch_lines.specs.declared.known.Ticks.{Ticks}
 use Rattle.css_watch.specs.Progress.{progress_after, judged, reports_now, tried_by, counted, told_number, is_open}
@@ -75,10 +82,31 @@ lacks_timestamp state progress =
     else if not (is_open progress.ts) then codes "TS isn't open"
     else codes "no text came"
 
-abbrev pub detail_of : Cause → State → Progress → List ℕ
-detail_of cause.NoAnswer state progress = lacks_answer state progress
-detail_of cause.NoTimestamp state progress = lacks_timestamp state progress
-detail_of _ state progress = []
+-- whether a set lists a timeline with this selector
+abbrev pub is_listed : List ℕ → List Timeline → Bool
+is_listed selector timelines = list_any (λ timeline. bytes_eq timeline.selector selector) timelines
+
+-- the selectors of these timelines, each behind a comma
+abbrev pub further_words : List Timeline → List ℕ
+further_words [] = []
+further_words (timeline ∷ timelines) = codes ", " ++ (timeline.selector ++ further_words timelines)
+
+-- the first eight selectors that a set lists
+abbrev pub listed_words : List Timeline → List ℕ
+listed_words [] = codes "no timeline"
+listed_words (timeline ∷ timelines) = timeline.selector ++ further_words (take 7 timelines)
+
+-- what a visit lacks that has a control timestamp and no interval: the wanted timeline, where the set doesn't list it
+abbrev pub lacks_timeline : List ℕ → List Timeline → List ℕ
+lacks_timeline selector timelines =
+    if is_listed selector timelines then [] else codes "the set lists " ++ listed_words timelines
+
+abbrev pub detail_of : List ℕ → Cause → State → Progress → List ℕ
+detail_of selector cause.NoAnswer state progress = lacks_answer state progress
+detail_of selector cause.NoTimestamp state progress = lacks_timestamp state progress
+detail_of selector cause.Unavailable state progress = lacks_timeline selector (unwrap_or state.timelines [])
+detail_of selector cause.NoRate state progress = lacks_timeline selector (unwrap_or state.timelines [])
+detail_of selector _ state progress = []
 
 -- ---- the line of a report
 -- what a report with ticks tells
@@ -105,7 +133,7 @@ ticks_line own selector number reading ticks history =
 
 abbrev pub said_of : Plan → ℕ → ℕ → Report → History → Progress → Line
 said_of plan number reading (report.None cause) history progress =
-    Unknown number reading cause (detail_of cause (state_of history) progress)
+    Unknown number reading cause (detail_of plan.run.companion.selector cause (state_of history) progress)
 said_of plan number reading (report.Ticks lo hi) history progress =
     ticks_line plan.run.companion.local plan.run.companion.selector number reading (record { lo = lo; hi = hi }) history
 
@@ -134,9 +162,10 @@ abbrev pub turn_lines : Plan → ℕ → History → Progress → List Line
 turn_lines plan reading history progress =
     report_lines plan reading history progress ++ (slept_lines reading progress ++ visit_lines reading progress)
 
+-- whether two dials are told alike
 abbrev pub is_same : Tried → Tried → Bool
 is_same Never Never = true
-is_same Failed Failed = true
+is_same (Failed failure) (Failed other) = bytes_eq (failure_words failure) (failure_words other)
 is_same Open Open = true
 is_same _ _ = false
 
@@ -146,10 +175,10 @@ last_dial kind.Cii progress = progress.cii
 last_dial kind.Wc progress = progress.wc
 last_dial kind.Ts progress = progress.ts
 
--- where the outcome differs from that of the dial before
-abbrev pub dial_lines : Kind → Option ℕ → Progress → List Line
-dial_lines kind peer progress =
-    if is_same (tried_by peer) (last_dial kind progress) then [] else Dial kind (is_some peer) ∷ []
+-- where the outcome, or why the dial failed, differs from that of the dial before
+abbrev pub dial_lines : Kind → Result ℕ Failure → Progress → List Line
+dial_lines kind tried progress =
+    if is_same (tried_by tried) (last_dial kind progress) then [] else Dial kind (result_err tried) ∷ []
 
 abbrev pub type_in : Result Message WcFault → ℕ
 type_in (Ok message) = message.message_type
@@ -159,22 +188,27 @@ type_in (Err fault) = 0
 abbrev pub landing_line : Local → ℕ → List ℕ → Result Answer Landing → Line
 landing_line own reading bytes (Ok answer) =
     Answered answer (type_in (decoded bytes)) reading (hi own answer reading -ℤ lo own answer reading)
-landing_line own reading bytes (Err refusal) = Refused refusal reading
+landing_line own reading bytes (Err refusal) = Refused refusal bytes reading
 
 -- the state after a text, unless the text is refused
 abbrev pub state_lines : Result State CompanionFault → List Line
 state_lines (Ok state) = StateTold state ∷ []
 state_lines (Err fault) = []
 
+-- what a text was read as
+abbrev pub read_line : List ℕ → Result Control TsFault → Line
+read_line text (Ok control) = ControlTold control
+read_line text (Err fault) = Unread fault (front_of text)
+
 abbrev pub text_lines : Session → List ℕ → History → List Line
 text_lines session.Cii text history = state_lines (told (next_number (texts_of history)) (state_of history) text)
-text_lines session.Ts text history = ControlTold (control_of text) ∷ []
+text_lines session.Ts text history = read_line text (control_of text) ∷ []
 
 -- the lines of an event after a history, the newest first
 abbrev pub lines_by : Plan → Event → History → Progress → List Line
 lines_by plan Slept history progress = []
 lines_by plan (Turn reading) history progress = turn_lines plan reading history progress
-lines_by plan (Dialled kind peer) history progress = dial_lines kind peer progress
+lines_by plan (Dialled kind tried) history progress = dial_lines kind tried progress
 lines_by plan (Asked reading) history progress = slept_lines reading progress
 lines_by plan (Landed reading bytes) history progress =
     landing_line plan.run.companion.local reading bytes (judged plan history reading bytes)

@@ -18,7 +18,8 @@ use Rattle.css_drive.specs.Visits.{AreFollowed, Visit, Visiting, begun_after, en
 use Rattle.css_drive.specs.Visits.{why}
 use Rattle.css_drive.specs.declared.driven.Driven.{Driven}
 use Rattle.css_drive.specs.declared.driven.Driven.TheVariants as driven
-use Rattle.css_watch_lines.specs.Lines.{line_text, Ended}
+use Rattle.css_watch_lines.specs.Fronts.{front_of}
+use Rattle.css_watch_lines.specs.Lines.{Line, line_text, Ended, EndedBy}
 use Rattle.css_watch.specs.Progress.{fresh, nothing_begun, told_number, with_visit}
 use Rattle.css_watch.specs.Telling.{Told, told_of, text_of}
 use Rattle.css_watch.specs.declared.ending.Watched.{Watched}
@@ -76,15 +77,24 @@ pub record Hangs (before now : Option History) (was is : ℕ) (wanted : History)
 abbrev pub told_in : Plan → Begun → Visit → Told
 told_in plan begun visit = told_of plan (fresh (with_visit begun)) (noted plan.run visit.history)
 
-abbrev pub end_text : Begun → Option (List ℕ) → List ℕ
-end_text begun None = []
-end_text begun (Some words) = line_text (Ended (told_number begun.visits) words)
+-- a visit ended, perhaps with this CII text
+abbrev pub ended_with : ℕ → List ℕ → Option (List ℕ) → Line
+ended_with number words None = Ended number words
+ended_with number words (Some text) = EndedBy number words (front_of text)
+
+-- the line of a visit's end
+abbrev pub end_line : Progress → List ℕ → Line
+end_line progress words = ended_with (told_number progress.begun.visits) words progress.unread
+
+abbrev pub end_text : Progress → Option (List ℕ) → List ℕ
+end_text progress None = []
+end_text progress (Some words) = line_text (end_line progress words)
 
 -- what a visit writes: its lines, and where another one follows why it ended
 abbrev pub visit_text : Plan → Begun → Visit → List ℕ
 visit_text plan begun visit =
     let told = told_in plan begun visit in
-    text_of told.lines ++ end_text told.progress.begun (why visit.ended told.parting)
+    text_of told.lines ++ end_text told.progress (why visit.ended told.parting)
 
 -- what a run ends as that its observer ends, or that lacks memory
 abbrev pub IsBroken : Driven → Type 0

@@ -97,7 +97,7 @@ pub record IsStep (plan : Plan) (event : Event) (history : History) (answers : A
     (over : Option OutFault) (parting : Option Parting) (held holds : Option (List ℕ)) (before now : ℕ) : Type 0 where
   pub says : Says over parting (telling.parting_by plan event history was answers) held holds before now
       (text_of (lines_by plan event history was))
-  pub progress_so : is ≡ progress_after plan event history was
+  pub progress_so : says.cause ≡ None → is ≡ progress_after plan event history was
   pub agree_so : says.cause ≡ None → IsOf plan new (answers_after plan event history answers)
 
 -- so it is, whatever answers the agreement was of

@@ -1,12 +1,14 @@
 //! How far a visit came, in words.
 ghost use Rattle.std.specs.Prelude.{◌≡◌, IfOk, string_bytes};
+ghost use Rattle.css_cii.specs.Texts.{IsUtf8State};
 ghost use Rattle.css_watch.specs.Telling as telling;
 
-use crate::progress::{Progress, Tried};
+use crate::listed::lacks_listed;
+use crate::progress::Progress;
 use css_cii::State;
 use css_client::Landing;
 use css_companion::Cause;
-use css_num::Memory;
+use css_num::{Memory, Text};
 use css_watch_lines::landing_words;
 use std::alloc::Global;
 
@@ -57,7 +59,7 @@ fn lacks_answer(alloc: Global, state: &State, progress: &Progress) -> Result<Str
     if state.wc_url.is_none() {
         return words(alloc, "no wcUrl");
     }
-    if progress.wc != Tried::Open {
+    if !progress.wc.is_open() {
         return words(alloc, "WC isn't open");
     }
     lacks_response(alloc, progress)
@@ -73,7 +75,7 @@ fn lacks_timestamp(alloc: Global, state: &State, progress: &Progress) -> Result<
     if state.ts_url.is_none() {
         return words(alloc, "no tsUrl");
     }
-    if progress.ts != Tried::Open {
+    if !progress.ts.is_open() {
         return words(alloc, "TS isn't open");
     }
     words(alloc, "no text came")
@@ -82,15 +84,19 @@ fn lacks_timestamp(alloc: Global, state: &State, progress: &Progress) -> Result<
 /// How far a visit came whose report has this cause: what it lacks.
 pub(crate) fn detail(
     alloc: Global,
+    selector: &Text,
     cause: &Cause,
     state: &State,
     progress: &Progress,
 ) -> Result<String, Memory>
-    ensures { IfOk result (λ words. string_bytes words ≡ telling.detail_of cause.now state.now progress.now) }
+    requires { IsUtf8State state.now }
+    ensures { IfOk result
+        (λ words. string_bytes words ≡ telling.detail_of selector.now cause.now state.now progress.now) }
 {
     match cause {
         Cause::NoAnswer => lacks_answer(alloc, state, progress),
         Cause::NoTimestamp => lacks_timestamp(alloc, state, progress),
-        _ => Ok(String::new(alloc)),
+        Cause::Unavailable | Cause::NoRate => lacks_listed(alloc, selector, &state.timelines),
+        Cause::SessionClosed | Cause::Unreadable(_) => Ok(String::new(alloc)),
     }
 }

@@ -1,14 +1,18 @@
 //! The lines of what happens in a visit.
 ghost use Rattle.std.specs.Prelude.{◌≡◌, ◌≤◌, ◌<◌, ◌++◌, List, [], ◌∷◌, Option, IfOk, MatchResult};
-ghost use Rattle.std.specs.Prelude.{◌^◌, option_copied};
+ghost use Rattle.std.specs.Prelude.{◌^◌, option_copied, bytes_eq};
 ghost use Rattle.css_model.specs.declared.TheConstants.{LIMIT};
 ghost use Rattle.css_model.specs.History.{History};
 ghost use Rattle.css_model.specs.Wire.{decoded};
+ghost use Rattle.css_companion.specs.Contents.{next_number, told};
+ghost use Rattle.css_companion.specs.Meanings.{texts_of, state_of};
 ghost use Rattle.css_companion.specs.Standing.{StandsFor, own_of};
 ghost use Rattle.css_drive.specs.CompanionStanding.{Knows};
 ghost use Rattle.css_drive.specs.declared.session.Session.TheVariants as sessions;
 ghost use Rattle.css_tsmsg.specs.Controls.{control_of, IsInRange};
+ghost use Rattle.css_watch_lines.specs.Fronts.{front_of};
 ghost use Rattle.css_watch_lines.specs.Lines as lines;
+ghost use Rattle.css_watch_lines.specs.Words.{failure_words as words_for};
 ghost use Rattle.css_watch.specs.Progress as spec;
 ghost use Rattle.css_watch.specs.Telling as telling;
 ghost use Rattle.css_watch.specs.Telling.{text_of};
@@ -16,17 +20,17 @@ ghost use Rattle.css_watch.specs.Telling.{text_of};
 use crate::detail::detail;
 use crate::plan::Plan;
 use crate::progress::{Begun, Progress, Tried};
-use crate::progress_steps::{counted, reports_now, told_number, tried};
+use crate::progress_steps::{counted, reports_now, told_number};
 use css_client::Landing;
 use css_companion::{Cause, Companion, CompanionFault, Report, Timing};
 use css_drive::Session;
 use css_num::{Control, Memory, Span, Text};
-use css_outside::Kind;
+use css_outside::{Failure, Kind};
 use css_span::{Answer, Local, width_at};
 use css_tsmsg::{TsFault, read_control};
 use css_watch_lines::{
-    Known, Ticks, answer_line, cause_line, control_line, dial_line, known_line, refused_line,
-    slept_line, state_line, visit_line,
+    Known, Ticks, answer_line, cause_line, control_line, dial_line, failure_words, front,
+    known_line, refused_line, slept_line, state_line, unread_line, visit_line,
 };
 use css_wc::decode;
 use std::alloc::Global;
@@ -34,6 +38,7 @@ use std::alloc::Global;
 /// The line of a report without ticks.
 fn unknown_line(
     alloc: Global,
+    plan: &Plan,
     number: u64,
     reading: u64,
     cause: &Cause,
@@ -42,9 +47,10 @@ fn unknown_line(
 ) -> Result<Text, Memory>
     requires { number < 10 ^ 18 }
     ensures { IfOk result (λ text. text ≡ text_of (lines.Unknown number reading cause.now
-        (telling.detail_of cause.now companion.now.state progress.now) ∷ [])) }
+        (telling.detail_of plan.now.run.companion.selector cause.now companion.now.state progress.now) ∷ [])) }
 {
-    let detail = detail(alloc, cause, companion.state(), progress)?;
+    let selector = &plan.run.companion.selector;
+    let detail = detail(alloc, selector, cause, companion.state(), progress)?;
     cause_line(alloc, number, reading, cause, detail.as_str())
 }
 
@@ -109,7 +115,9 @@ pub(crate) fn report_line(
         (λ text. text ≡ text_of (telling.report_line plan.now number reading history progress.now ∷ [])) }
 {
     match companion.report(reading) {
-        Report::None(cause) => unknown_line(alloc, number, reading, &cause, companion, progress),
+        Report::None(cause) => {
+            unknown_line(alloc, plan, number, reading, &cause, companion, progress)
+        }
         Report::Ticks { lo, hi } => ticks_line(alloc, number, reading, companion, Ticks { lo, hi }),
     }
 }
@@ -193,24 +201,50 @@ pub(crate) fn turn_text(
     Ok(text)
 }
 
-/// The line of a dial, where its outcome is another one than that of the dial before.
-pub(crate) fn dial_text(
-    alloc: Global,
-    kind: Kind,
-    peer: Option<u32>,
-    progress: &Progress,
-) -> Result<Text, Memory>
-    ensures { IfOk result (λ text. text ≡ text_of (telling.dial_lines kind peer progress.now)) }
+/// Whether the words for two failures are the same.
+fn is_told_alike(alloc: Global, failure: Failure, other: Failure) -> Result<bool, Memory>
+    ensures { IfOk result (λ same. same ≡ bytes_eq (words_for failure) (words_for other)) }
 {
-    let last = match kind {
+    let words = failure_words(alloc, failure)?;
+    let others = failure_words(alloc, other)?;
+    Ok(words.as_bytes() == others.as_bytes())
+}
+
+/// Whether two dials are told alike.
+fn is_same(alloc: Global, tried: Tried, last: Tried) -> Result<bool, Memory>
+    ensures { IfOk result (λ same. same ≡ telling.is_same tried last) }
+{
+    match (tried, last) {
+        (Tried::Failed(failure), Tried::Failed(other)) => is_told_alike(alloc, failure, other),
+        (Tried::Never, Tried::Never) | (Tried::Open, Tried::Open) => Ok(true),
+        _ => Ok(false),
+    }
+}
+
+/// The outcome of the last dial of a service.
+fn last_dial(kind: Kind, progress: &Progress) -> Tried
+    ensures { result ≡ telling.last_dial kind progress.now }
+{
+    match kind {
         Kind::Cii => progress.cii,
         Kind::Wc => progress.wc,
         Kind::Ts => progress.ts,
-    };
-    if tried(peer) == last {
+    }
+}
+
+/// The line of a dial, where its outcome, or why it failed, is another one than that of the dial before.
+pub(crate) fn dial_text(
+    alloc: Global,
+    kind: Kind,
+    tried: Result<u32, Failure>,
+    progress: &Progress,
+) -> Result<Text, Memory>
+    ensures { IfOk result (λ text. text ≡ text_of (telling.dial_lines kind tried progress.now)) }
+{
+    if is_same(alloc, Tried::by(tried), last_dial(kind, progress))? {
         return Ok(Text::new(alloc));
     }
-    dial_line(alloc, kind, peer.is_some())
+    dial_line(alloc, kind, tried.err())
 }
 
 /// The message type of a datagram, or 0 where it is none.
@@ -240,7 +274,7 @@ fn landing_line(
             let width = width_at(answer, local, reading);
             answer_line(alloc, answer, type_in(bytes), reading, width)
         }
-        Err(refusal) => refused_line(alloc, refusal, reading),
+        Err(refusal) => refused_line(alloc, refusal, bytes, reading),
     }
 }
 
@@ -277,6 +311,25 @@ fn state_text(alloc: Global, text: &Text, companion: &Companion) -> Result<Text,
     }
 }
 
+/// The text, if it is one of CSS-CII that is refused for what it says.
+pub(crate) fn unread_in(
+    alloc: Global,
+    text: &Text,
+    companion: &Companion,
+) -> Result<Option<Text>, Memory>
+    ensures { (history : History) → StandsFor companion.now history → IfOk result (λ unread. unread
+        ≡ spec.unread_by (told (next_number (texts_of history)) (state_of history) text.now) text.now) }
+{
+    match companion.state_after(text.bytes()) {
+        Ok(_) => Ok(None),
+        Err(fault) => match fault {
+            CompanionFault::BadCii { .. } => Ok(Some(text.clone()?)),
+            CompanionFault::Moved { .. } => Ok(None),
+            CompanionFault::Memory => Err(Memory),
+        },
+    }
+}
+
 /// What a text of the session of CSS-TS is read as.
 fn control_in(alloc: Global, text: &Text) -> Result<Result<Control, TsFault>, Memory>
     ensures value { IfOk result (λ told. told ≡ control_of text.now) }
@@ -291,12 +344,22 @@ fn control_in(alloc: Global, text: &Text) -> Result<Result<Control, TsFault>, Me
     }
 }
 
+/// The line of a text of the session of CSS-TS that isn't readable.
+fn unread_text(alloc: Global, text: &Text, fault: TsFault) -> Result<Text, Memory>
+    ensures { IfOk result (λ line. line ≡ text_of (lines.Unread fault (front_of text.now) ∷ [])) }
+{
+    let words = front(alloc, text.bytes())?;
+    unread_line(alloc, fault, words.as_str())
+}
+
 /// The line of what a text of the session of CSS-TS is read as.
 fn control_text(alloc: Global, text: &Text) -> Result<Text, Memory>
-    ensures { IfOk result (λ line. line ≡ text_of (lines.ControlTold (control_of text.now) ∷ [])) }
+    ensures { IfOk result (λ line. line ≡ text_of (telling.read_line text.now (control_of text.now) ∷ [])) }
 {
-    let told = control_in(alloc, text)?;
-    control_line(alloc, &told)
+    match control_in(alloc, text)? {
+        Ok(control) => control_line(alloc, &control),
+        Err(fault) => unread_text(alloc, text, fault),
+    }
 }
 
 /// The line of a text that came, if it has one.

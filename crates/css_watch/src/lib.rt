@@ -9,6 +9,7 @@ mod config;
 mod detail;
 mod ending;
 mod event_lines;
+mod listed;
 mod plan;
 mod progress;
 mod progress_steps;

@@ -1,4 +1,6 @@
 use css_client::Landing;
+use css_num::Text;
+use css_outside::Failure;
 
 /// What the visits of a watch did so far.
 #[derive(Clone, Copy)]
@@ -16,18 +18,17 @@ pub struct Begun {
 }
 
 /// What became of the last dial of a service in a visit.
-#[derive(Clone, Copy, Debug, PartialEq, Eq)]
+#[derive(Clone, Copy)]
 pub enum Tried {
     /// None was made.
     Never,
-    /// It failed.
-    Failed,
+    /// It failed. The system said this of it.
+    Failed(Failure),
     /// It succeeded.
     Open,
 }
 
 /// How far a visit came.
-#[derive(Clone, Copy)]
 pub struct Progress {
     /// What the visits of the watch did, this one among them.
     pub begun: Begun,
@@ -50,4 +51,27 @@ pub struct Progress {
     pub waiting: u64,
     /// Why the datagram that landed last since the last sleep was refused, if it was.
     pub refused: Option<Landing>,
+    /// The text of CSS-CII that was refused for what it says, if one was. It ends the visit.
+    pub unread: Option<Text>,
+}
+
+// One function drops it, so that its callers' proofs don't open each of its fields.
+impl Drop for Progress {
+    fn drop(self) {
+        let Progress {
+            begun: _,
+            entered: _,
+            slept: _,
+            cii: _,
+            wc: _,
+            ts: _,
+            cii_open: _,
+            ts_open: _,
+            ts_closed: _,
+            asked: _,
+            waiting: _,
+            refused: _,
+            unread: _,
+        } = self;
+    }
 }

@@ -9,7 +9,7 @@ use crate::progress::{Begun, Progress, Tried};
 use css_client::Landing;
 use css_companion::Report;
 use css_drive::Session;
-use css_outside::{Kind, Limit};
+use css_outside::{Failure, Kind, Limit};
 use css_span::Answer;
 
 /// The greatest number that a line tells.
@@ -137,6 +137,16 @@ impl Begun {
             found: self.found || matches!(report, Report::Ticks { .. }),
         }
     }
+
+    /// With the report that is due, if one is.
+    fn with_due(self, due: &Option<Report>) -> Begun
+        ensures { result ≡ spec.with_due due.now self }
+    {
+        match due {
+            None => self,
+            Some(report) => self.with_report(report),
+        }
+    }
 }
 
 impl Progress {
@@ -157,126 +167,116 @@ impl Progress {
             asked: false,
             waiting: 0,
             refused: None,
+            unread: None,
         }
     }
 
     /// After a sleep.
-    pub(crate) fn after_sleep(self) -> Progress
-        ensures { result ≡ spec.after_sleep self }
+    pub(crate) fn after_sleep(&mut self)
+        ensures { self.new ≡ spec.after_sleep self.old }
     {
-        Progress {
-            slept: true,
-            asked: false,
-            waiting: 0,
-            refused: None,
-            ..self
-        }
+        self.slept = true;
+        self.asked = false;
+        self.waiting = 0;
+        self.refused = None;
     }
 
     /// Whether CSS-TS was open and isn't any more.
     fn has_closed_ts(&self) -> bool
         ensures { result ≡ spec.has_closed_ts self.now }
     {
-        self.ts == Tried::Open && self.ts_open.is_none()
+        self.ts.is_open() && self.ts_open.is_none()
     }
 
     /// After a turn with its report, if one is due.
-    pub(crate) fn after_turn(self, reading: u64, due: &Option<Report>) -> Progress
-        ensures { result ≡ spec.after_turn reading due.now self }
+    pub(crate) fn after_turn(&mut self, reading: u64, due: &Option<Report>)
+        ensures { self.new ≡ spec.after_turn reading due.now self.old }
     {
-        let begun = self.begun.with_turn(reading);
-        Progress {
-            begun: match due {
-                None => begun,
-                Some(report) => begun.with_report(report),
-            },
-            entered: true,
-            slept: false,
-            ts_closed: self.has_closed_ts(),
-            ..self
-        }
+        self.ts_closed = self.has_closed_ts();
+        self.begun = self.begun.with_turn(reading).with_due(due);
+        self.entered = true;
+        self.slept = false;
     }
 
     /// After a dial of CSS-CII.
-    fn after_cii(self, peer: Option<u32>) -> Progress
-        ensures { result ≡ spec.after_dial kinds.Cii peer self }
+    fn after_cii(&mut self, tried: Result<u32, Failure>)
+        ensures { self.new ≡ spec.after_dial kinds.Cii tried self.old }
     {
-        Progress {
-            begun: self.begun.with_dial(peer.is_some()),
-            cii: tried(peer),
-            cii_open: peer.or(self.cii_open),
-            ..self
-        }
+        self.begun = self.begun.with_dial(tried.is_ok());
+        self.cii = Tried::by(tried);
+        self.cii_open = opened_by(tried, self.cii_open);
     }
 
     /// After a dial.
-    pub(crate) fn after_dial(self, kind: Kind, peer: Option<u32>) -> Progress
-        ensures { result ≡ spec.after_dial kind peer self }
+    pub(crate) fn after_dial(&mut self, kind: Kind, tried: Result<u32, Failure>)
+        ensures { self.new ≡ spec.after_dial kind tried self.old }
     {
         match kind {
-            Kind::Cii => self.after_cii(peer),
-            Kind::Wc => Progress {
-                wc: tried(peer),
-                ..self
-            },
-            Kind::Ts => Progress {
-                ts: tried(peer),
-                ts_open: peer.or(self.ts_open),
-                ..self
-            },
+            Kind::Cii => self.after_cii(tried),
+            Kind::Wc => self.wc = Tried::by(tried),
+            Kind::Ts => {
+                self.ts = Tried::by(tried);
+                self.ts_open = opened_by(tried, self.ts_open);
+            }
         }
     }
 
     /// After a request.
-    pub(crate) fn after_request(self) -> Progress
-        ensures { result ≡ spec.after_request self }
+    pub(crate) fn after_request(&mut self)
+        ensures { self.new ≡ spec.after_request self.old }
     {
-        Progress {
-            slept: false,
-            asked: true,
-            waiting: counted(self.waiting),
-            ..self
-        }
+        self.slept = false;
+        self.asked = true;
+        self.waiting = counted(self.waiting);
     }
 
     /// After a landing of what is told so.
-    pub(crate) fn after_landing(self, judged: &Result<Answer, Landing>) -> Progress
-        ensures { result ≡ spec.after_landing judged.now self }
+    pub(crate) fn after_landing(&mut self, judged: &Result<Answer, Landing>)
+        ensures { self.new ≡ spec.after_landing judged.now self.old }
     {
-        Progress {
-            slept: false,
-            waiting: 0,
-            refused: match judged {
-                Ok(_) => None,
-                Err(refusal) => Some(*refusal),
-            },
-            ..self
-        }
+        self.slept = false;
+        self.waiting = 0;
+        self.refused = match judged {
+            Ok(_) => None,
+            Err(refusal) => Some(*refusal),
+        };
     }
 
     /// After the end of a session.
-    pub(crate) fn after_end(self, session: Session) -> Progress
-        ensures { result ≡ spec.after_end session self }
+    pub(crate) fn after_end(&mut self, session: Session)
+        ensures { self.new ≡ spec.after_end session self.old }
     {
         match session {
-            Session::Cii => Progress {
-                cii_open: None,
-                ..self
-            },
-            Session::Ts => Progress {
-                ts_open: None,
-                ..self
-            },
+            Session::Cii => self.cii_open = None,
+            Session::Ts => self.ts_open = None,
         }
     }
 }
 
-/// What became of a dial.
-pub(crate) fn tried(peer: Option<u32>) -> Tried
-    ensures { result ≡ spec.tried_by peer }
+/// The peer of a session that a dial opened, else the one that was open.
+fn opened_by(tried: Result<u32, Failure>, was: Option<u32>) -> Option<u32>
+    ensures { result ≡ spec.opened_by tried was }
 {
-    match peer {
-        None => Tried::Failed,
-        Some(_) => Tried::Open,
+    match tried {
+        Ok(peer) => Some(peer),
+        Err(_) => was,
+    }
+}
+
+impl Tried {
+    /// What became of a dial.
+    pub(crate) fn by(tried: Result<u32, Failure>) -> Tried
+        ensures { result ≡ spec.tried_by tried }
+    {
+        match tried {
+            Ok(_) => Tried::Open,
+            Err(failure) => Tried::Failed(failure),
+        }
+    }
+
+    pub(crate) fn is_open(&self) -> bool
+        ensures { result ≡ spec.is_open self.now }
+    {
+        matches!(self, Tried::Open)
     }
 }

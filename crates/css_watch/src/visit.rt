@@ -15,6 +15,7 @@ ghost use Rattle.css_drive.specs.Visits.{parting_words};
 ghost use Rattle.css_watch.specs.Visits as visits;
 ghost use Rattle.css_watch.specs.Visits.{Hangs, hang_ups};
 ghost use Rattle.css_watch.specs.Watching.{IsFresh};
+ghost use Rattle.css_watch_lines.specs.Lines.{line_text};
 ghost use Rattle.css_watch.specs.declared.plan.Plan.{Plan as Planned};
 ghost use Rattle.css_watch.specs.declared.progress.Begun.{Begun as Started};
 
@@ -26,10 +27,11 @@ use crate::watching::{Watching, put};
 use css_agree::Agree;
 use css_companion::Companion;
 use css_drive::{Driven, Parting, Session, companion_of, drive};
-use css_num::Memory;
+use css_num::{Memory, Text};
 use css_outside::{OutFault, Outside, Sink};
-use css_watch_lines::end_line;
+use css_watch_lines::{end_line, front, refused_end_line};
 use std::alloc::Global;
+use std::mem::replace;
 
 /// What came of a visit.
 pub(crate) enum Visited {
@@ -164,6 +166,18 @@ fn hang_up<O: Outside>(outside: &mut O, progress: &Progress) -> Result<(), OutFa
     hang_up_one(outside, progress.ts_open)
 }
 
+/// The line of a visit's end.
+fn ended_line(alloc: Global, progress: &Progress, why: &str) -> Result<Text, Memory>
+    ensures { IfOk result (λ text. text ≡ line_text (visits.end_line progress.now why.now)) }
+{
+    let number = told_number(progress.begun.visits);
+    let Some(text) = &progress.unread else {
+        return end_line(alloc, number, why);
+    };
+    let words = front(alloc, text.bytes())?;
+    refused_end_line(alloc, number, why, words.as_str())
+}
+
 /// Tells why a visit ended, hangs up the sessions that are open, and goes on with the next visit.
 fn go_on<K: Sink, O: Outside>(
     alloc: Global,
@@ -178,7 +192,7 @@ fn go_on<K: Sink, O: Outside>(
     ensures dials { (O.counts outside.new).dial_faults ≡ (O.counts outside.old).dial_faults }
     ensures by { (ended : Ended) → EndsBy ended result }
 {
-    let line = end_line(alloc, told_number(progress.begun.visits), why);
+    let line = ended_line(alloc, progress, why);
     match put(sink, line) {
         Some(fault) => Visited::Over(unwritten(fault)),
         None => match hang_up(outside, progress) {
@@ -269,10 +283,11 @@ fn drive_watching<K: Sink, O: Outside>(
 {
     let plan = watching.plan;
     let ended = drive(alloc, &plan.run, companion, outside, watching);
+    let left = Progress::fresh(watching.progress.begun);
     Run {
         ended,
         parting: watching.parting,
-        progress: watching.progress,
+        progress: replace(&mut watching.progress, left),
     }
 }
 

@@ -16,7 +16,9 @@ ghost use Rattle.css_agree.specs.Keeping.{StandsFor};
 ghost use Rattle.css_drive.specs.CompanionStanding.{Knows};
 ghost use Rattle.css_span.specs.Frontiers.{Answers};
 
-use crate::event_lines::{dial_text, heard_text, landing_text, report_due, slept_text, turn_text};
+use crate::event_lines::{
+    dial_text, heard_text, landing_text, report_due, slept_text, turn_text, unread_in,
+};
 use crate::plan::Plan;
 use crate::progress::{Begun, Progress};
 use crate::progress_steps::is_over;
@@ -151,7 +153,7 @@ fn wake(alloc: Global, plan: &Plan, slept: bool, progress: &mut Progress, agree:
     ensures { Wakes plan.now slept progress.old progress.new agree.old agree.new }
 {
     if slept {
-        *progress = progress.after_sleep();
+        progress.after_sleep();
         *agree = Agree::new(alloc, plan.run.companion.local);
     }
 }
@@ -226,7 +228,7 @@ impl<'a, K: Sink> Watching<'a, K> {
         let late = late(self.plan, reading, &self.progress.begun);
         let parting = late.or(closed_before(self.plan, reading, &self.progress));
         let due = report_due(self.plan, reading, &self.progress.begun, companion);
-        self.progress = self.progress.after_turn(reading, &due);
+        self.progress.after_turn(reading, &due);
         self.say(text, parting);
     }
 
@@ -243,10 +245,32 @@ impl<'a, K: Sink> Watching<'a, K> {
         let judged = companion.judge(bytes, reading);
         let local = &self.plan.run.companion.local;
         let text = landing_text(self.alloc, local, reading, bytes, &judged, &self.progress);
-        self.progress = self.progress.after_landing(&judged);
+        self.progress.after_landing(&judged);
         match accept(self.agree, &judged, reading) {
             Ok(parting) => self.say(text, parting),
             Err(Memory) => self.fail(),
+        }
+    }
+
+    /// A text.
+    fn hear(&mut self, session: Session, text: &Text, companion: &Companion)
+        ensures sink_name { self.new.sink.ghost_name ≡ self.old.sink.ghost_name }
+        ensures plan { self.new.plan.now ≡ self.old.plan.now }
+        ensures steps { (history : History) → Knows self.old.plan.now.run.companion companion.now history
+            → Steps self.old.plan.now (notes.Heard session text.now) history self.old.progress self.new.progress
+            self.old.agree.now self.new.agree.now self.new.over self.new.parting (K.holds self.old.sink.now)
+            (K.holds self.new.sink.now) (K.faults self.old.sink.now) (K.faults self.new.sink.now) }
+    {
+        let line = heard_text(self.alloc, session, text, companion);
+        match session {
+            Session::Ts => self.say(line, None),
+            Session::Cii => match unread_in(self.alloc, text, companion) {
+                Ok(unread) => {
+                    self.progress.unread = unread;
+                    self.say(line, None);
+                }
+                Err(Memory) => self.fail(),
+            },
         }
     }
 }
@@ -301,15 +325,15 @@ impl<K: Sink> Observes for Watching<'_, K> {
         self.turn(clocked.reading, companion);
     }
 
-    fn dialled(&mut self, kind: Kind, peer: Option<u32>) {
-        let text = dial_text(self.alloc, kind, peer, &self.progress);
-        self.progress = self.progress.after_dial(kind, peer);
+    fn dialled(&mut self, kind: Kind, tried: Result<u32, Failure>) {
+        let text = dial_text(self.alloc, kind, tried, &self.progress);
+        self.progress.after_dial(kind, tried);
         self.say(text, None);
     }
 
     fn asked(&mut self, reading: u64) {
         let text = slept_text(self.alloc, reading, &self.progress);
-        self.progress = self.progress.after_request();
+        self.progress.after_request();
         self.say(text, None);
     }
 
@@ -325,12 +349,11 @@ impl<K: Sink> Observes for Watching<'_, K> {
     }
 
     fn heard(&mut self, session: Session, text: &Text, companion: &Companion) {
-        let line = heard_text(self.alloc, session, text, companion);
-        self.say(line, None);
+        self.hear(session, text, companion);
     }
 
     fn closed(&mut self, session: Session) {
-        self.progress = self.progress.after_end(session);
+        self.progress.after_end(session);
         self.say(Ok(Text::new(self.alloc)), closed_at_once(session));
     }
 }

@@ -1,19 +1,14 @@
-use Rattle.std.proofs.Common.{◌∙◌, sym, subst}
-use Rattle.css_agree.specs.Keeping.{Kept}
+use Rattle.std.proofs.Common.{◌∙◌}
 use Rattle.css_drive.specs.Notes as notes
-use Rattle.css_watch.specs.Watching.{IsOf}
 use Rattle.css_watch.proofs.Telling as telling
 use Rattle.css_watch.proofs.watching.WatchingObserves.heard.Goals as goal
 
 pub returns : goal.returns
 returns g c from k started older on s = (
-  c.say.ensures.sink_name ∙ s.0,
-  c.say.ensures.plan ∙ s.1,
+  c.hear.ensures.sink_name ∙ s.0,
+  c.hear.ensures.plan ∙ s.1,
   telling.told_on started.plan.now started.progress from (notes.Heard c.args.session c.args.text.now) older _ _ _ _ _ _
       _ _ _ _ _ _ _ _ on s.2
-      (λ e answers of. let P : Kept → Type 0 = λ x. IsOf started.plan.now x answers in record {
-        says = c.say.ensures.said _ (c.heard_text-line.ensures from.history k.stands);
-        progress_so = c.say.ensures.progress;
-        agree_so = λ none. subst P (sym c.say.ensures.agree) of;
-      }),
+      (λ e. telling.steps_as _ started.plan.now from.config c.args.companion.now
+      (notes.Heard c.args.session c.args.text.now) _ _ _ _ _ _ _ _ _ _ _ s.1 e k c.hear.ensures.steps),
 )
