@@ -5,7 +5,7 @@ use css_app::{Status, run};
 use css_drive::{Before, Listens, Nobody};
 use css_follow::{Cues, Meter};
 use css_memory::{MemoryOutside, MemorySink, MemorySource, MemorySpawner};
-use css_outside::{Outside, Sink, Source, Spawner};
+use css_outside::{Failure, Outside, Sink, Source, Spawner};
 use std::alloc::Global;
 use std::process::Abort;
 
@@ -24,6 +24,8 @@ pub struct Case<'a> {
     pub writes: &'a [u64],
     /// Those of the outside.
     pub calls: &'a [u64],
+    /// What the system says of each dial that fails, in order.
+    pub failures: &'a [Failure],
     /// Those of the spawner.
     pub spawns: &'a [u64],
 }
@@ -38,6 +40,7 @@ pub const BLANK: Case<'static> = Case {
     reads: &[],
     writes: &[],
     calls: &[],
+    failures: &[],
     spawns: &[],
 };
 
@@ -100,7 +103,9 @@ fn run_case(rt: &impl Abort, alloc: Global, case: &Case<'_>) -> (String, Vec<u8>
     let mut source = MemorySource::new(alloc, case.input, piece, case.reads).expect(rt, NO_MEMORY);
     let mut sink = MemorySink::new(alloc, piece, case.writes).expect(rt, NO_MEMORY);
     let script = script_of(rt, alloc, &case.world, case.calls);
-    let mut outside = MemoryOutside::new(alloc, script).expect(rt, NO_MEMORY);
+    let failures = case.failures.to_vec(alloc).expect(rt, NO_MEMORY);
+    let outside = MemoryOutside::new(alloc, script).expect(rt, NO_MEMORY);
+    let mut outside = outside.failing_by(failures);
     let mut spawner = MemorySpawner::new(alloc, case.children, case.spawns).expect(rt, NO_MEMORY);
     let (first, second) = (Cues::new(alloc), Meter::new(alloc));
     let status = status_of(

@@ -3,6 +3,7 @@
 use crate::live_tables::{ANSWERED, CII, RESPONSE, SECONDS, TS};
 use crate::outside::{SILENT, Said, World};
 use crate::running::{BLANK, Case};
+use css_outside::Failure;
 
 /// A name, a watch, its status in words, and its lines.
 #[rattlefmt::skip]
@@ -33,7 +34,11 @@ const OTHER_TS: &str = r#"{"tsUrl":"ws://127.0.0.1:7001/ts","wcUrl":"udp://127.0
 
 const VISIT: &str = r#"{"event":"visit","number":1,"reading":"0"}"#;
 
-const CII_FAILED: &str = r#"{"event":"dial","outcome":"failed","service":"CII"}"#;
+/// The line of a dial of CII that failed.
+#[rattlefmt::skip]
+macro_rules! failed {
+    ($why:literal) => { concat!(r#"{"event":"dial","outcome":"failed","service":"CII","why":""#, $why, r#""}"#) };
+}
 
 const CII_OPEN: &str = r#"{"event":"dial","outcome":"open","service":"CII"}"#;
 
@@ -107,21 +112,26 @@ const REPORT: &str = known!(
     r#""5000","5007""#
 );
 
-/// A report without ticks.
+/// A report without ticks, for this cause.
 #[rattlefmt::skip]
-macro_rules! no_answer {
-    ($number:literal, $reading:literal, $detail:literal) => {
-        concat!(r#"{"cause":"NoAnswer","detail":""#, $detail, r#"","event":"report","number":"#, $number,
+macro_rules! caused {
+    ($cause:literal, $number:literal, $reading:literal, $detail:literal) => {
+        concat!(r#"{"cause":""#, $cause, r#"","detail":""#, $detail, r#"","event":"report","number":"#, $number,
             r#","reading":""#, $reading, r#""}"#)
     };
 }
 
+/// A report without an answer.
+macro_rules! no_answer {
+    ($number:literal, $reading:literal, $detail:literal) => {
+        caused!("NoAnswer", $number, $reading, $detail)
+    };
+}
+
 /// A report after the TS session closed.
-#[rattlefmt::skip]
 macro_rules! session_closed {
     ($number:literal, $reading:literal) => {
-        concat!(r#"{"cause":"SessionClosed","detail":"","event":"report","number":"#, $number, r#","reading":""#,
-            $reading, r#""}"#)
+        caused!("SessionClosed", $number, $reading, "")
     };
 }
 
@@ -150,6 +160,80 @@ const OFTEN: Case<'static> = Case {
 const ASKING: Case<'static> = Case {
     words: "watch --cii ws://127.0.0.1:6677/cii --seconds 1 --ask-every 1000 --local-error 0 --local-precision 0",
     ..BLANK
+};
+
+/// The last of the dials that fail isn't told, since it fails as the one before.
+#[rattlefmt::skip]
+const FAILS: Case<'static> = Case {
+    words: "watch --cii ws://127.0.0.1:6677/cii --seconds 3 --local-error 0 --local-precision 0",
+    world: World { times: &[0, 1_000_000_000, 2_000_000_000, 3_000_000_000], ..SILENT },
+    calls: &[2, 4, 6],
+    failures: &[Failure::HttpStatus(404), Failure::Refused, Failure::Refused],
+    ..BLANK
+};
+
+/// A set that lists two timelines, as it tells them.
+const LISTS: &str = concat!(
+    r#"{"timelines":[{"timelineProperties":{"unitsPerSecond":50,"unitsPerTick":1},"timelineSelector":"urn:a"},"#,
+    r#"{"timelineProperties":{"unitsPerSecond":50,"unitsPerTick":1},"timelineSelector":"urn:b"}],"#,
+    r#""tsUrl":"ws://127.0.0.1:6678/ts","wcUrl":"udp://127.0.0.1:6677"}"#
+);
+
+/// The line of its state.
+const STATE_LISTS: &str = concat!(
+    r#"{"event":"state","state":{"contentId":null,"contentIdStatus":null,"mrsUrl":null,"presentationStatus":null,"#,
+    r#""protocolVersion":null,"teUrl":null,"timelines":["#,
+    r#"{"timelineProperties":{"unitsPerSecond":50,"unitsPerTick":1},"timelineSelector":"urn:a"},"#,
+    r#"{"timelineProperties":{"unitsPerSecond":50,"unitsPerTick":1},"timelineSelector":"urn:b"}],"#,
+    r#""tsUrl":"ws://127.0.0.1:6678/ts","wcUrl":"udp://127.0.0.1:6677"}}"#
+);
+
+const PRESENTS_NONE: &str =
+    r#"{"contentTime":null,"timelineSpeedMultiplier":null,"wallClockTime":"0"}"#;
+
+const NO_CONTROL: &str =
+    r#"{"control":{"contentTime":null,"timelineSpeedMultiplier":null,"wallClockTime":null},"event":"control"}"#;
+
+#[rattlefmt::skip]
+const PRESENTS: World = World {
+    times: &[0, 5, 6, 8, 10, 1_000_000_000],
+    texts: &[(1, Said::Text(LISTS)), (2, Said::Text(PRESENTS_NONE))],
+    ..ANSWERED
+};
+
+/// A set that presents nothing, asked for a timeline that it doesn't list.
+#[rattlefmt::skip]
+const UNLISTED: Case<'static> = Case {
+    words: "watch --cii ws://127.0.0.1:6677/cii --selector urn:c --seconds 1 --report-every 10 --local-error 0 \
+--local-precision 0",
+    world: PRESENTS,
+    ..BLANK
+};
+
+/// The same, asked for one that it lists.
+#[rattlefmt::skip]
+const LISTED: Case<'static> = Case {
+    words: "watch --cii ws://127.0.0.1:6677/cii --selector urn:b --seconds 1 --report-every 10 --local-error 0 \
+--local-precision 0",
+    ..UNLISTED
+};
+
+/// It presents the timeline, and nobody knows its rate.
+#[rattlefmt::skip]
+const UNRATED: Case<'static> = Case {
+    world: World { texts: &[(1, Said::Text(CII)), (2, Said::Text(TS))], ..PRESENTS },
+    ..UNLISTED
+};
+
+/// What comes is no datagram, and no control timestamp.
+#[rattlefmt::skip]
+const UNREADABLE: Case<'static> = Case {
+    world: World {
+        datagrams: &[b"\x01\xffcss"],
+        texts: &[(1, Said::Text(CII)), (2, Said::Text("{\"a\": \u{e9}"))],
+        ..PRESENTS
+    },
+    ..OFTEN
 };
 
 const TELLS_NO_WC: World = World {
@@ -303,8 +387,11 @@ const EVENING_TOLD: &[&str] = &[
 #[rattlefmt::skip]
 pub const WATCHES: &[WatchRow] = &[
     ("every dial fails", Case { calls: &[2, 4], ..WATCH }, "unreachable after 3 turns",
-        &[VISIT, CII_FAILED, no_answer!("1", "1000000000", "CII isn't open"),
+        &[VISIT, failed!("other"), no_answer!("1", "1000000000", "CII isn't open"),
             no_answer!("2", "2000000000", "CII isn't open")]),
+    ("dials fail in two ways", FAILS, "unreachable after 4 turns",
+        &[VISIT, failed!("HTTP status 404"), no_answer!("1", "1000000000", "CII isn't open"), failed!("refused"),
+            no_answer!("2", "2000000000", "CII isn't open"), no_answer!("3", "3000000000", "CII isn't open")]),
     ("no wcUrl", Case { world: TELLS_NO_WC, ..WATCH }, "no interval in 2 reports",
         &[VISIT, CII_OPEN, STATE_NONE, no_answer!("1", "1000000000", "no wcUrl"),
             no_answer!("2", "2000000000", "no wcUrl")]),
@@ -314,6 +401,28 @@ pub const WATCHES: &[WatchRow] = &[
             no_answer!("3", "3000000000", "no response to 2 requests"),
             no_answer!("4", "4000000000", "no response to 3 requests")]),
     ("the TS session closes", CLOSES, "done", CLOSED),
+];
+
+/// Watches whose lines say why.
+#[rattlefmt::skip]
+pub const REASONS: &[WatchRow] = &[
+    ("a timeline that isn't listed", UNLISTED, "no interval in 2 reports",
+        &[VISIT, CII_OPEN, STATE_LISTS, WC_OPEN, TS_OPEN, ANSWER, NO_CONTROL,
+            caused!("Unavailable", "1", "10", "the set lists urn:a, urn:b"),
+            caused!("Unavailable", "2", "1000000000", "the set lists urn:a, urn:b")]),
+    ("a timeline that is listed", LISTED, "no interval in 2 reports",
+        &[VISIT, CII_OPEN, STATE_LISTS, WC_OPEN, TS_OPEN, ANSWER, NO_CONTROL, caused!("Unavailable", "1", "10", ""),
+            caused!("Unavailable", "2", "1000000000", "")]),
+    ("a timeline without a rate", UNRATED, "no interval in 2 reports",
+        &[VISIT, CII_OPEN, STATE_BOTH, WC_OPEN, TS_OPEN, ANSWER, CONTROL,
+            caused!("NoRate", "1", "10", "the set lists no timeline"),
+            caused!("NoRate", "2", "1000000000", "the set lists no timeline")]),
+    ("what can't be read", UNREADABLE, "no interval in 2 reports",
+        &[VISIT, CII_OPEN, STATE_BOTH, WC_OPEN, TS_OPEN,
+            r#"{"bytes":"01ff637373","event":"refused","fault":"Undecodable Length","landed":"8"}"#,
+            r#"{"event":"control","fault":"NotJson","text":"{\"a\": é"}"#,
+            no_answer!("1", "10", "the last datagram was refused: Undecodable Length"),
+            no_answer!("2", "1000000000", "the last datagram was refused: Undecodable Length")]),
 ];
 
 /// Watches that begin another visit, that sleep, and that last for an evening.
@@ -329,7 +438,7 @@ pub const VISITS: &[WatchRow] = &[
             r#"{"event":"end","number":1,"why":"moved tsUrl"}"#, r#"{"event":"visit","number":2,"reading":"20"}"#,
             CII_OPEN, STATE_OTHER_TS, WC_OPEN, TS_OPEN, no_answer!("1", "1000000000", "no response to 1 requests")]),
     ("no object", Case { world: NO_OBJECT, ..SECOND }, "no interval in 1 reports",
-        &[VISIT, CII_OPEN, r#"{"event":"end","number":1,"why":"CII text 1: not object"}"#,
+        &[VISIT, CII_OPEN, r#"{"event":"end","number":1,"text":"[]","why":"CII text 1: not object"}"#,
             r#"{"event":"visit","number":2,"reading":"1"}"#, CII_OPEN, STATE_NONE,
             no_answer!("1", "1000000000", "no wcUrl")]),
     ("the wall clock is set", Case { world: DISAGREES, ..ASKING }, "no interval in 1 reports",

@@ -1,7 +1,7 @@
 //! The command `watch` over devices in memory.
 
 use crate::running::{Case, NO_MEMORY, check_run};
-use crate::watch_tables::{CLOSED, CLOSES, FAILING, VISITS, WATCHES, WatchRow};
+use crate::watch_tables::{CLOSED, CLOSES, FAILING, REASONS, VISITS, WATCHES, WatchRow};
 use css_num::Text;
 use std::alloc::Global;
 use std::process::Abort;
@@ -25,6 +25,11 @@ fn check_watches(rt: &impl Abort, alloc: Global, rows: &[WatchRow]) {
 #[test]
 fn each_watch_tells_what_happens(rt: HostRuntime) {
     check_watches(&rt, rt.alloc(), WATCHES);
+}
+
+#[test]
+fn each_watch_says_why(rt: HostRuntime) {
+    check_watches(&rt, rt.alloc(), REASONS);
 }
 
 #[test]

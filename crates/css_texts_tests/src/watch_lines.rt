@@ -4,13 +4,13 @@ use crate::common::{check, words};
 use css_cii::{State, apply_to, read_message};
 use css_client::Landing;
 use css_companion::Cause;
-use css_model::WcFault;
+use css_model::{Failure, Kind, WcFault};
 use css_num::{Memory, Rate, Span, Text};
 use css_span::Answer;
 use css_tsmsg::{TsFault, TsName, read_control};
 use css_watch_lines::{
-    Known, Ticks, answer_line, cause_line, control_line, known_line, refused_line, slept_line,
-    state_line, visit_line,
+    Known, Ticks, answer_line, cause_line, control_line, dial_line, front, known_line,
+    refused_end_line, refused_line, slept_line, state_line, unread_line, visit_line,
 };
 use std::alloc::Global;
 use std::process::Abort;
@@ -60,6 +60,38 @@ fn a_state_has_all_nine_properties(rt: HostRuntime) {
     check_line(&rt, alloc, state_line(alloc, &state), STATE);
 }
 
+/// Dials that failed, and why.
+#[rattlefmt::skip]
+const FAILURES: [(Failure, &str); 10] = [
+    (Failure::Refused, "refused"),
+    (Failure::NoSuchHost, "no such host"),
+    (Failure::TimedOut, "no answer"),
+    (Failure::HttpStatus(503), "HTTP status 503"),
+    (Failure::NoWebSocket, "no WebSocket"),
+    (Failure::NoPermission, "no permission"),
+    (Failure::NoRoom, "no room"),
+    (Failure::InUse, "other"),
+    (Failure::NotHere, "other"),
+    (Failure::Other, "other"),
+];
+
+#[test]
+fn dials_that_fail_say_why(rt: HostRuntime) {
+    let alloc = rt.alloc();
+    for (failure, why) in &FAILURES {
+        let line = r#"{"event":"dial","outcome":"failed","service":"TS","why":"@"}"#;
+        let line = line.replace(alloc, "@", why).expect(&rt, "memory");
+        check_line(
+            &rt,
+            alloc,
+            dial_line(alloc, Kind::Ts, Some(*failure)),
+            &line,
+        );
+    }
+    let line = r#"{"event":"dial","outcome":"open","service":"WC"}"#;
+    check_line(&rt, alloc, dial_line(alloc, Kind::Wc, None), line);
+}
+
 /// Texts of TS, and their lines.
 #[rattlefmt::skip]
 const CONTROLS: [(&str, &str); 5] = [
@@ -67,19 +99,61 @@ const CONTROLS: [(&str, &str); 5] = [
         r#"{"control":{"contentTime":"-9000","timelineSpeedMultiplier":-64,"wallClockTime":"10"},"event":"control"}"#),
     (r#"{"contentTime":null,"timelineSpeedMultiplier":null,"wallClockTime":"5"}"#,
         r#"{"control":{"contentTime":null,"timelineSpeedMultiplier":null,"wallClockTime":null},"event":"control"}"#),
-    ("{", r#"{"event":"control","fault":"NotJson"}"#),
-    ("{}", r#"{"event":"control","fault":"Field contentTime"}"#),
-    (r#"{"contentTime":"1","timelineSpeedMultiplier":65,"wallClockTime":"1"}"#,
-        r#"{"event":"control","fault":"Range timelineSpeedMultiplier"}"#),
+    ("{", r#"{"event":"control","fault":"NotJson","text":"{"}"#),
+    ("{}", r#"{"event":"control","fault":"Field contentTime","text":"{}"}"#),
+    (r#"{"contentTime":"1","timelineSpeedMultiplier":65,"wallClockTime":"1"}"#, concat!(
+        r#"{"event":"control","fault":"Range timelineSpeedMultiplier","text":"{\"contentTime\":\"1\","#,
+        r#"\"timelineSpeedMultiplier\":65,\"wallClockTime\":\"1\"}"}"#)),
 ];
 
 #[test]
 fn control_timestamps_are_told_or_refused(rt: HostRuntime) {
     let alloc = rt.alloc();
     for (text, line) in &CONTROLS {
-        let told = read_control(alloc, text.as_bytes());
-        check_line(&rt, alloc, control_line(alloc, &told), line);
+        let told = match read_control(alloc, text.as_bytes()) {
+            Ok(control) => control_line(alloc, &control),
+            Err(fault) => unread_line(alloc, fault, text),
+        };
+        check_line(&rt, alloc, told, line);
     }
+}
+
+/// Texts of some bytes, and how many of them a line tells, with the words at their end.
+#[rattlefmt::skip]
+const FRONTS: [(&[u8], usize, &[u8], usize, &str); 7] = [
+    (b"a", 0, b"", 0, ""),
+    (b"a", 1000, b"", 1000, "a"),
+    (b"a", 1001, b"", 1000, "a"),
+    (b"a", 998, b"\xc3\xa9!", 1000, "é"),
+    (b"a", 999, b"\xc3\xa9!", 999, "a"),
+    (b"a", 997, b"\xf0\x9f\x98\x80!", 997, "a"),
+    (b"a", 10, b"\xffb", 14, "\u{fffd}b"),
+];
+
+#[test]
+fn a_text_is_told_by_its_front(rt: HostRuntime) {
+    let alloc = rt.alloc();
+    for (byte, times, more, length, end) in &FRONTS {
+        let mut text = Text::new(alloc);
+        for _ in 0..*times {
+            text.push(byte).expect(&rt, "memory");
+        }
+        text.push(more).expect(&rt, "memory");
+        let told = front(alloc, text.bytes()).expect(&rt, "memory");
+        let text = told.as_str();
+        assert!(rt;
+            text.len() == *length && text.ends_with(*end),
+            "{length} bytes: {text}"
+        );
+    }
+}
+
+#[test]
+fn an_end_has_the_text_that_is_refused(rt: HostRuntime) {
+    let alloc = rt.alloc();
+    let line = r#"{"event":"end","number":3,"text":"[\"é","why":"CII text 1: not JSON"}"#;
+    let told = refused_end_line(alloc, 3, "CII text 1: not JSON", "[\"é");
+    check_line(&rt, alloc, told, line);
 }
 
 const ANSWER: Answer = Answer {
@@ -121,9 +195,10 @@ const REFUSALS: [(Landing, &str); 9] = [
 fn refusals_are_told_by_their_names(rt: HostRuntime) {
     let alloc = rt.alloc();
     for (landing, fault) in &REFUSALS {
-        let line = r#"{"event":"refused","fault":"@","landed":"7"}"#;
+        let line = r#"{"bytes":"0010ff","event":"refused","fault":"@","landed":"7"}"#;
         let line = line.replace(alloc, "@", fault).expect(&rt, "memory");
-        check_line(&rt, alloc, refused_line(alloc, landing, 7), &line);
+        let told = refused_line(alloc, landing, b"\x00\x10\xff", 7);
+        check_line(&rt, alloc, told, &line);
     }
 }
 
