@@ -345,7 +345,8 @@ def nobody(check, program):
           1 < count <= 1 + 2 * took, f"{count} times in {took:.2f} s")
     out = ends_so(check, "nobody is there", child, 10, "css: unreachable after [0-9]+ turns",
                   {"visit", "dial", "report"})
-    check("and a failed dial is told once", sum(b'"dial"' in line for line in out) == 1)
+    whys = [json.loads(line)["why"] for line in out if b'"dial"' in line]
+    check("and a failed dial is told once, as refused", whys in (["refused"], ["no answer", "refused"]), whys)
     reports = [line for line in out if b'"report"' in line]
     check("and each report says so", 0 < len(reports) <= 6 and all(
         b'"cause":"NoAnswer","detail":"CII isn\'t open"' in line for line in reports), len(reports))

@@ -8,6 +8,7 @@ its clock is set. `truth` tells where its content really is.
 import json
 import pathlib
 import random
+import struct
 import sys
 
 sys.path.insert(0, str(pathlib.Path(__file__).resolve().parent.parent / "tools"))
@@ -16,7 +17,7 @@ from television import ERROR, RATE, SECOND, Television, tick_at  # noqa: E402
 
 TURN, F = 10**7, 256_000_000
 LOCAL_ERROR, LOCAL_PRECISION = 128_000, 1000
-PRECISION_NS = 954  # It is 2^-20 s.
+PRECISION, PRECISION_NS = -20, 954  # It is 2^-20 s.
 BEGIN = 98_765_432_109_876_543  # The first reading: beyond 2^53, so that no page may read it as a number.
 SLOW_RATE = {"unitsPerSecond": 1000, "unitsPerTick": 1}
 
@@ -101,7 +102,7 @@ class Evening:
             return
         outcome = "open" if self.tv.on else "failed"
         if self.dialled.get(service) != outcome:
-            self.say("dial", outcome=outcome, service=service)
+            self.say("dial", outcome=outcome, service=service, **({"why": "no answer"} if outcome == "failed" else {}))
         self.dialled[service] = outcome
         if outcome == "open" and service != "WC":
             self.texts.append(service)
@@ -143,7 +144,8 @@ class Evening:
                 self.say("control", control=self.control)
             elif text == "garbled":
                 self.fault = "Field wallClockTime"
-                self.say("control", fault=self.fault)
+                text = json.dumps(self.tv.control | {"wallClockTime": "soon"}, separators=(",", ":"))
+                self.say("control", fault=self.fault, text=text)
             else:
                 self.why = text
 
@@ -221,10 +223,17 @@ class Evening:
         self.texts.append("TS")
 
     def do_stray(self):
-        self.say("refused", fault="Unasked", landed=self.reading())
+        self.refuse("Unasked", self.time + SECOND, 0)
 
     def do_impossible(self):
-        self.say("refused", fault="Impossible", landed=self.reading())
+        self.refuse("Impossible", self.time, SECOND)
+
+    def refuse(self, fault, asked, inside):
+        """A response to a request of this time, after so long in the television."""
+        received = self.tv.wall(self.time)
+        times = [part for time in (BEGIN + asked, received, received + inside) for part in divmod(time, SECOND)]
+        response = struct.pack(">BBbxI6I", 0, 1, PRECISION, ERROR, *times)
+        self.say("refused", bytes=response.hex(), fault=fault, landed=self.reading())
 
     def do_sleep(self):
         self.answers.clear()

@@ -6,7 +6,7 @@ import pathlib
 import re
 import sys
 
-from page_tv import ERROR, F, LOCAL_ERROR, LOCAL_PRECISION, PRECISION_NS, rate_in, span, tick_at
+from page_tv import ERROR, F, LOCAL_ERROR, LOCAL_PRECISION, PRECISION_NS, SELECTOR, rate_in, span, tick_at
 
 sys.path.append(str(pathlib.Path(__file__).resolve().parent.parent / "examples"))
 from carry import Television as Carried
@@ -18,14 +18,17 @@ STATE = ("contentId", "contentIdStatus", "mrsUrl", "presentationStatus", "protoc
 REFUSED = "Undecodable (Length|Version|MessageType|Precision|Error|Nanoseconds)|Unasked|NotAnAnswer|Impossible"
 UNREAD = "NotJson|NotObject|Fractional|(Field|Range) (contentTime|timelineSpeedMultiplier|wallClockTime)"
 CAUSE = f"NoAnswer|NoTimestamp|SessionClosed|Unreadable ({UNREAD})|Unavailable|NoRate"
-WHY = "closed (CII|TS)|CII text [1-9][0-9]*: (not json|not object|field [a-zA-Z]+)|(moved|bad) (wc|ts)Url|disagree"
+CII_TEXT = "CII text [1-9][0-9]*: (not json|not object|field [a-zA-Z]+)"
+WHY = "closed (CII|TS)|(moved|bad) (wc|ts)Url|disagree"
+UNREACHED = "refused|no such host|no answer|HTTP status [0-9]+|no WebSocket|no permission|no room|other"
 NO_ANSWER = f"nothing was asked|no response to [1-9][0-9]* requests|the last datagram was refused: ({REFUSED})"
 
 CHECKS = {
     "form": "each line is compact JSON of its form, its members in order",
     "visits": "visits are numbered in order, and each begins where the last one ended",
     "reports": "reports are numbered in order, and made when they are due",
-    "dials": "a dial is told where its outcome differs from the last one",
+    "dials": "a dial is told where its outcome differs from the last one, or why it failed",
+    "texts": "each text that can't be read is told by its front, as the television sent it",
     "states": "each state is one that the television told, in order",
     "controls": "each control timestamp is one that the television told",
     "answers": "each answer is one that the television sent, with the width of its span",
@@ -56,6 +59,10 @@ def words(pattern):
     return lambda value: isinstance(value, str) and re.fullmatch(pattern, value) is not None
 
 
+def front(value):
+    return isinstance(value, str) and len(value.encode()) <= 1000
+
+
 def both(holds):
     return lambda value: isinstance(value, list) and len(value) == 2 and all(map(holds, value)) \
         and int(value[0]) <= int(value[1])
@@ -79,18 +86,20 @@ CONTROL = members(contentTime=signed, timelineSpeedMultiplier=whole(-64, 64), wa
 NO_CONTROL = dict.fromkeys(("contentTime", "timelineSpeedMultiplier", "wallClockTime"))
 FORMS = {
     "visit": [{"number": COUNT, "reading": digits}],
-    "dial": [{"outcome": words("open|failed"), "service": words("|".join(SERVICES))}],
+    "dial": [{"outcome": words("open"), "service": words("|".join(SERVICES))},
+             {"outcome": words("failed"), "service": words("|".join(SERVICES)), "why": words(UNREACHED)}],
     "state": [{"state": members(**TOLD)}],
-    "control": [{"control": lambda value: CONTROL(value) or value == NO_CONTROL}, {"fault": words(UNREAD)}],
+    "control": [{"control": lambda value: CONTROL(value) or value == NO_CONTROL},
+                {"fault": words(UNREAD), "text": front}],
     "answer": [{"error": whole(0, 25_600_000), "landed": digits, "originate": digits, "precision": digits,
                 "receive": digits, "transmit": digits, "type": whole(1, 3), "width": digits}],
-    "refused": [{"fault": words(REFUSED), "landed": digits}],
+    "refused": [{"bytes": words("([0-9a-f]{2}){0,64}"), "fault": words(REFUSED), "landed": digits}],
     "slept": [{"reading": digits}],
     "report": [{"error": whole(0, 25_600_000), "number": COUNT, "rate": UNITS, "reading": digits,
                 "speed": whole(-64, 64), "ticks": both(signed), "wall": both(signed)},
                {"cause": words(CAUSE), "detail": lambda value: isinstance(value, str), "number": COUNT,
                 "reading": digits}],
-    "end": [{"number": COUNT, "why": words(WHY)}],
+    "end": [{"number": COUNT, "why": words(WHY)}, {"number": COUNT, "text": front, "why": words(CII_TEXT)}],
 }
 
 
@@ -118,6 +127,12 @@ def scaled_width(answer, reading):
     return high * (F + LOCAL_ERROR) - low * (F - LOCAL_ERROR)
 
 
+def sent(text):
+    """The front of a text as a television sends it."""
+    data = text if isinstance(text, bytes) else json.dumps(text).encode()
+    return data.decode(errors="replace").encode()[:1000].decode(errors="ignore")
+
+
 def do_disagree(answers, reading):
     spans = [span(answer, reading) for answer in answers]
     return bool(spans) and max(low for low, _ in spans) > min(high for _, high in spans)
@@ -128,7 +143,7 @@ class Visit:
 
     def __init__(self, number):
         self.number, self.ended, self.session = number, False, None
-        self.dials, self.states, self.control = {}, [], None
+        self.dials, self.whys, self.states, self.control = {}, {}, [], None
         self.answers, self.promised, self.refused, self.disagrees = [], {}, None, False
         self.closed = False  # Whether a report said that CSS-TS is closed.
 
@@ -158,7 +173,12 @@ class Visit:
             return "SessionClosed", ""
         if isinstance(self.control, str):
             return f"Unreadable {self.control}", ""
-        return ("Unavailable", "") if self.control["contentTime"] is None else None
+        return ("Unavailable", self.missing()) if self.control["contentTime"] is None else None
+
+    def missing(self):
+        """The pattern of what a report says of the timelines, where the wanted one isn't among them."""
+        listed = [one["timelineSelector"] for one in (self.states[-1]["timelines"] if self.states else None) or []]
+        return "" if SELECTOR in listed else "the set lists " + re.escape(", ".join(listed[:8]) or "no timeline")
 
 
 class Story:
@@ -208,9 +228,10 @@ class Story:
         self.expect("visits", said["number"] == len(self.visits), said)
 
     def on_dial(self, visit, said):
-        before = visit.dials.get(said["service"])
-        self.expect("dials", before not in (said["outcome"], "open"), said)
-        visit.dials[said["service"]] = said["outcome"]
+        service, why = said["service"], said.get("why")
+        same = visit.dials.get(service) == said["outcome"] and visit.whys.get(service) == why
+        self.expect("dials", not same and not visit.is_open(service), said)
+        visit.dials[service], visit.whys[service] = said["outcome"], why
         if (said["service"], said["outcome"]) == ("CII", "open"):
             visit.session, self.sessions = self.sessions, self.sessions + 1
 
@@ -222,6 +243,8 @@ class Story:
 
     def on_control(self, visit, said):
         visit.control = said.get("control") or said["fault"]
+        if "fault" in said:
+            self.expect("texts", said["text"] in (sent(text) for _, text, fault in self.tv.controls if fault), said)
         self.expect("controls", visit.is_open("TS") and any(
             visit.control == (fault or (text if text["contentTime"] else NO_CONTROL))
             for _, text, fault in self.tv.controls), said)
@@ -254,6 +277,8 @@ class Story:
                  "bad tsUrl": visit.says("tsUrl"), "disagree": self.last == "answer"}
         holds = int(text[1]) == len(visit.states) + 1 if text else after.get(why, bool(visit.states))
         self.expect("ends", holds and said["number"] == visit.number, said)
+        if text and why.endswith("not object"):
+            self.expect("texts", said["text"] == "[]", said)
         self.expect("disagree", visit.disagrees == (why == "disagree"), said)
 
     def on_report(self, visit, said):
