@@ -23,7 +23,7 @@ less a b h = by (int_lt a b) refl
     by false e = absurd (omega (arith, ints, e, h))
 
 -- and what isn't doesn't
-not_less : (a b : ℤ) → b ≤ℤ a → int_lt a b ≡ false
+pub not_less : (a b : ℤ) → b ≤ℤ a → int_lt a b ≡ false
 not_less a b h = by (int_lt a b) refl
   where
     by : (t : Bool) → int_lt a b ≡ t → int_lt a b ≡ false
@@ -31,7 +31,7 @@ not_less a b h = by (int_lt a b) refl
     by false e = e
 
 -- of answers that disagree two contradict each other
-contradicting : (own : Local) (reading : ℕ) (added : Answers) → disagree own reading added ≡ true
+pub contradicting : (own : Local) (reading : ℕ) (added : Answers) → disagree own reading added ≡ true
     → (low : Answer) × (high : Answer) × Contradict own reading added low high
 contradicting own reading [] e = absurd (cc)
 contradicting own reading (first ∷ others) e =

@@ -1,19 +1,20 @@
 -- The answers of lines declare what is in range.
-use Rattle.std.proofs.Common.{ℕ, suc, ◌+◌, ◌<◌, ◌≤◌, arith, Bool, true, false, List, [], ◌∷◌}
+use Rattle.std.proofs.Common.{◌≡◌, subst, ℕ, suc, ◌+◌, ◌<◌, ◌≤◌, arith, Bool, true, false, List, [], ◌∷◌}
 use Rattle.std.specs.Prelude.{if◌then◌else◌, int_lt, pos, negsuc, ⊤, bytes_eq, codes, Result, Ok, Err, IfOk}
 use Rattle.std.proofs.lemmas.List.Elements.{All-nil, All-cons}
-use Rattle.css_model.specs.Numbers.{max_error}
-use Rattle.css_model.specs.WallClock.{Answer, Local, scaled_width}
+use Rattle.css_model.specs.Numbers.{max_error, max_local_error, max_local_precision}
+use Rattle.css_model.specs.WallClock.{Answer, Local, IsLocal, scaled_width}
 use Rattle.css_span.specs.Frontiers.{Answers}
 use Rattle.css_schedule.proofs.Steps.{First, Gets, pass, after, number-range}
 use Rattle.css_schedule.specs.declared.fault.LineFault.{LineFault}
 use Rattle.css_schedule.specs.declared.fault.LineFault.TheVariants.{Form}
-use Rattle.css_schedule.specs.Words.{word_at, signed_at, all_read, words_of}
+use Rattle.css_schedule.specs.Words.{word_at, after_word, signed_at, all_read, words_of}
 use Rattle.css_agree.specs.declared.input.AnswerLine.{AnswerLine}
 use Rattle.css_agree.specs.declared.input.AnswerLine.TheVariants as lines
 use Rattle.css_agree.specs.Agreeing.{Numbered, with_line, lines_after, lines_in, with_answer, after_line, answers_in}
 use Rattle.css_agree.specs.Agreements.{DeclareInRange}
 use Rattle.css_agree.specs.Inputs.{declared_at, answer_of, question_of, named, time_at, line_of_words, line_of}
+use Rattle.css_agree.specs.Inputs.{local_of_words, local_of}
 
 -- an answer's error is in range
 abbrev IsInRange : Answer → Type 0
@@ -92,3 +93,21 @@ lines_after-range own number older (text ∷ texts) rest =
 -- what lines declare is in range
 pub lines-in_range : (own : Local) (texts : List (List ℕ)) → DeclareInRange (answers_in own (lines_in texts))
 lines-in_range own texts = lines_after-range own 2 [] texts (All-nil IsInRange)
+
+-- ---- the header
+local-range : (words : List (List ℕ)) → IfOk (local_of_words words) IsLocal
+unfolding local_of_words
+local-range words =
+    pass IsLocal (after_word (codes "css-agree") words) _ (λ name.
+    pass IsLocal (after_word (codes "1") name) _ (λ version.
+    after (λ n. n < max_local_error + 1) IsLocal _ _ (number-range (max_local_error + 1) version)
+    (λ error rest small.
+    after (λ n. n < max_local_precision + 1) IsLocal _ _ (number-range (max_local_precision + 1) rest)
+    (λ precision last smaller.
+    pass IsLocal (all_read last) _ (λ end.
+    record { error = omega (arith, small); precision = omega (arith, smaller) })))))
+
+-- the companion's clock that a header declares is in range
+pub local_of-range : (text : List ℕ) (own : Local) → local_of text ≡ Ok own → IsLocal own
+local_of-range text own e =
+    subst (λ (r : Result Local LineFault). IfOk r IsLocal) e (local-range (words_of text))

@@ -1,6 +1,7 @@
 pub mod Alike
 pub mod Choices
 pub mod Places
+pub mod Leading
 pub mod Standing
 pub mod Shared
 pub mod Truth
@@ -9,4 +10,5 @@ pub mod Disagreements
 pub mod Carrying
 pub mod Inputs
 pub mod Reading
+pub mod Pairs
 pub mod Promise

@@ -17,11 +17,12 @@ use Rattle.css_agree.proofs.Choices.{All-reversed, All-unreversed}
 use Rattle.css_agree.proofs.Standing.{both-later}
 
 -- rounding keeps the order
-lo-mono : (own : Local) (a b : Answer) (r : ℕ) → lower own a r ≤ℤ lower own b r → lo own a r ≤ℤ lo own b r
+pub lo-mono : (own : Local) (a b : Answer) (r : ℕ) → lower own a r ≤ℤ lower own b r → lo own a r ≤ℤ lo own b r
 unfolding lo
 lo-mono own a b r h = floor_div-mono (lower own a r) (lower own b r) (F + own.error) (omega arith) h
 
-hi-mono : (own : Local) (a b : Answer) (r : ℕ) → IsLocal own → upper own a r ≤ℤ upper own b r → hi own a r ≤ℤ hi own b r
+pub hi-mono : (own : Local) (a b : Answer) (r : ℕ) → IsLocal own → upper own a r ≤ℤ upper own b r
+    → hi own a r ≤ℤ hi own b r
 unfolding hi
 hi-mono own a b r local h = ceil_div-mono (upper own a r) (upper own b r) (F - own.error) (omega arith) h
 

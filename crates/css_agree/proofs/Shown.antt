@@ -1,6 +1,8 @@
 -- What is printed of answers is what they say together.
-use Rattle.std.proofs.Common.{◌≡◌, ℕ, arith, refl, ap, sym, ◌∙◌, Bool, true, false, cond, [], ◌∷◌}
-use Rattle.std.specs.Prelude.{ℤ, ◌≤ℤ◌, ◌<ℤ◌, int_lt, if◌then◌else◌, Contains}
+use Rattle.std.proofs.Common.{◌≡◌, ℕ, arith, refl, ap, sym, ◌∙◌, Bool, true, false, cond, List, [], ◌∷◌, ◌++◌}
+use Rattle.std.proofs.Common.{append_assoc}
+use Rattle.std.specs.Prelude.{ℤ, ◌≤ℤ◌, ◌<ℤ◌, int_lt, if◌then◌else◌, Contains, Result, Ok, Err, OnOk}
+use Rattle.std.specs.Result.{is_ok}
 use Rattle.std.specs.Int.{int_max, int_min}
 use Rattle.std.proofs.lemmas.Int.{ints}
 use Rattle.std.proofs.lemmas.List.Elements.{All-nil, All-cons, All-contains, All-weaker, Contains-append_right}
@@ -14,6 +16,18 @@ use Rattle.css_agree.specs.declared.agreed.Agreed.TheVariants.{Nothing, Within, 
 use Rattle.css_agree.specs.Printed.{greatest_low, least_high, between, at_text, agreed_text, agree_line, disagree_line}
 use Rattle.css_agree.proofs.Truth.{agreement_is_true, contradiction_is_false}
 
+-- ---- pieces
+-- what is added where the call succeeds
+pub added : {T E : Type 0} (r : Result T E) (new old bytes line : List ℕ)
+    → new ≡ (if is_ok r then old ++ bytes else old) → bytes ≡ line → OnOk r (new ≡ old ++ line)
+added (Ok done) new old bytes line put same = put ∙ ap (λ b. old ++ b) same
+added (Err fault) new old bytes line put same = tt
+
+-- six pieces, one after the other
+pub joined : (a b d e f g line : List ℕ) → line ≡ a ++ (b ++ (d ++ (e ++ (f ++ g)))) → line ≡ a ++ b ++ d ++ e ++ f ++ g
+joined a b d e f g line is = rw is (simp append_assoc)
+
+-- ---- ends
 -- the first of a list is among it, and so is each of the rest
 contains-first : (first : Answer) (others : Answers) → Contains (first ∷ others) first
 contains-first first others = Contains-append_left (first ∷ []) others first (Contains-push [] first)

@@ -1,4 +1,5 @@
 pub mod Bests
+pub mod Named
 pub mod Agreements
 pub mod Keeping
 pub mod Verdicts
@@ -9,4 +10,6 @@ pub mod Disagreements
 pub mod Carrying
 pub mod Agreeing
 pub mod Reading
+pub mod Naming
+pub mod NamesKept
 pub mod Promise

@@ -13,6 +13,8 @@ mod ends;
 mod fault;
 mod input;
 pub mod laws;
+mod named;
+mod naming;
 mod printing;
 mod reader;
 
@@ -21,4 +23,5 @@ pub use agreed::Agreed;
 pub use css_span::{Answer, Local, Span};
 pub use fault::AgreeFault;
 pub use input::{AnswerLine, read_header, read_line};
+pub use naming::Naming;
 pub use reader::{Agreeing, Cause};

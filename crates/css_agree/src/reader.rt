@@ -29,7 +29,7 @@ pub enum Cause {
 #[derive(Drop)]
 pub struct Agreeing {
     alloc: Global,
-    agree: Option<Agree>,
+    pub(crate) agree: Option<Agree>,
     /// The number of the last line that was taken.
     last: u64,
     /// Its reading.
@@ -41,7 +41,7 @@ const LONGEST_LINE: usize = 4096;
 const LONGEST_INPUT: u64 = 67_108_864;
 
 // What the engine is told of a line that was not read.
-fn unread(fault: css_schedule::LineFault) -> LineFault<Cause>
+pub(crate) fn unread(fault: css_schedule::LineFault) -> LineFault<Cause>
     ensures { result ≡ unread_fault fault }
 {
     match fault {

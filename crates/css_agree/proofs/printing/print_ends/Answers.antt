@@ -1,23 +1,13 @@
 -- The line is made of its pieces, and is then added whole.
-use Rattle.std.proofs.Common.{◌≡◌, ◌∙◌, ap, ap₂, append_assoc, ℕ, ℤ, List, ◌++◌, to_z, of_z}
+use Rattle.std.proofs.Common.{◌≡◌, ◌∙◌, ap₂, ℤ, to_z, of_z}
 use Rattle.std.specs.Fmt.{signed_decimal}
-use Rattle.std.specs.Prelude.{if◌then◌else◌, codes, decimal, Result, Ok, Err, OnOk}
+use Rattle.std.specs.Prelude.{codes, decimal}
 use Rattle.std.specs.Int.{w128}
-use Rattle.std.specs.Result.{is_ok}
 use Rattle.std.specs.String.{string_bytes}
 use Rattle.std.proofs.lemmas.Int.{to_z-of_z}
 use Rattle.css_agree.specs.Printed.{ends_line}
+use Rattle.css_agree.proofs.Shown.{added, joined}
 use Rattle.css_agree.proofs.printing.print_ends.Goals as goal
-
--- what is added where the call succeeds
-added : {T E : Type 0} (r : Result T E) (new old bytes line : List ℕ)
-    → new ≡ (if is_ok r then old ++ bytes else old) → bytes ≡ line → OnOk r (new ≡ old ++ line)
-added (Ok done) new old bytes line put same = put ∙ ap (λ b. old ++ b) same
-added (Err fault) new old bytes line put same = tt
-
--- six pieces, one after the other
-joined : (a b d e f g line : List ℕ) → line ≡ a ++ (b ++ (d ++ (e ++ (f ++ g)))) → line ≡ a ++ b ++ d ++ e ++ f ++ g
-joined a b d e f g line is = rw is (simp append_assoc)
 
 pub returns-clause-ok : goal.returns-clause-ok
 returns-clause-ok c =
