@@ -3,6 +3,9 @@
 _css() {
     local word=${COMP_WORDS[COMP_CWORD]} offered
     case ${COMP_WORDS[1]} in
+    agree)
+        offered="--pairs"
+        ;;
     companion)
         offered="--cii --selector --stem --reports --turns --seconds --report-every --ask-every --local-error
             --local-precision --earliest --latest --record"

@@ -22,7 +22,7 @@ TABLES = {
     "live": ["css_drive.CompanionRun.Ran"],
     "commands": ["css_app.Commands.ByCompanion", "css_app.Commands.ByPair", "css_app.Commands.ByTv"],
     "generated": ["css_app.Commands.ByGenerate", "css_app.Commands.BySurvey"],
-    "agree": ["css_app.Commands.ByAgree"],
+    "agree": ["css_app.Commands.ByAgree", "css_app.Commands.ByPairs"],
     "audit": ["css_app.Commands.ByAudit"],
     "record": ["css_app.Commands.ByRecord"],
     "relay": ["css_app.Commands.ByRelay", "css_drive_relay.SecondHop.SecondHopsAreTrue"],

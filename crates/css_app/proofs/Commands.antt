@@ -26,6 +26,7 @@ use Rattle.css_lines.specs.Meaning.{outcome}
 use Rattle.css_lines.proofs.Cut.{length_read}
 use Rattle.css_lines.proofs.Meant.{outcome-append, outcome_after, some_next, long_input}
 use Rattle.css_agree.specs.Agreeing.{agreeing}
+use Rattle.css_agree.specs.Naming.{naming}
 use Rattle.css_audit.specs.Auditing.{auditing}
 use Rattle.css_migrate.specs.Migrated.{migrated}
 use Rattle.css_schedule.specs.Lines.{script_of}
@@ -410,8 +411,12 @@ lacks (Ok Replay) used = record {
     keeps = ([], ([], refl), inl refl);
   };
 }
-lacks (Ok Agree) used = record {
+lacks (Ok (Agree false)) used = record {
   lines = over_none agreeing agree_refused used;
+  promise = record { read = []; printed = []; took = consumes_none _; grew = appends_none _; keeps = inl refl };
+}
+lacks (Ok (Agree true)) used = record {
+  lines = over_none naming agree_refused used;
   promise = record { read = []; printed = []; took = consumes_none _; grew = appends_none _; keeps = inl refl };
 }
 lacks (Ok Audit) used =

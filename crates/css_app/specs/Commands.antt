@@ -3,6 +3,7 @@ use Rattle.std.specs.Prelude.{◌≡◌, ◌⊎◌, ℕ, Bool, true, false, not,
 use Rattle.std.specs.Prelude.{String, map, string_bytes}
 use Rattle.css_model.specs.History.{Address, History}
 use Rattle.css_agree.specs.Agreeing.{agreeing}
+use Rattle.css_agree.specs.Naming.{naming}
 use Rattle.css_agree.specs.Promise as agree
 use Rattle.css_audit.specs.Auditing.{auditing}
 use Rattle.css_audit.specs.Promise.{SaysRight}
@@ -55,7 +56,7 @@ IsUsageUnlessMemory _ = ⊥
 -- A companion that records its run reads no sheet, and no one follows it.
 abbrev pub uses_source : Result Asked WordsFault → Bool
 uses_source (Ok Replay) = true
-uses_source (Ok Agree) = true
+uses_source (Ok (Agree pairs)) = true
 uses_source (Ok Audit) = true
 uses_source (Ok Migrate) = true
 uses_source (Ok (Companion asked)) = not asked.recorded
@@ -129,6 +130,12 @@ asked_child asked = record {
 pub record ByAgree (source : SourceUse) (sink : SinkUse) (result : Status) : Type 0 where
   pub lines : OverLines agreeing agree_refused source sink result
   pub promise : agree.Promised source.left_old source.left_new sink.holds_old sink.holds_new
+
+-- The same with `--pairs`. Where the answers disagree, one line more names two of them, which aren't both true in any
+-- world that keeps the oscillators' errors.
+pub record ByPairs (source : SourceUse) (sink : SinkUse) (result : Status) : Type 0 where
+  pub lines : OverLines naming agree_refused source sink result
+  pub promise : agree.PromisedNamed source.left_old source.left_new sink.holds_old sink.holds_new
 
 -- The record of a companion: where the audit says yes, each report in the record is the one that its companion was to
 -- make there, by the lines before it. It is refused at the first line that has a cause, by the first cause of that
@@ -271,7 +278,8 @@ BySurvey asked sink result =
 -- what a command does to the devices that it uses, or words that are those of none
 abbrev pub Does : Result Asked WordsFault → Uses → Status → Type 0
 Does (Ok Replay) used result = ByReplay used.source used.sink result
-Does (Ok Agree) used result = ByAgree used.source used.sink result
+Does (Ok (Agree false)) used result = ByAgree used.source used.sink result
+Does (Ok (Agree true)) used result = ByPairs used.source used.sink result
 Does (Ok Audit) used result = ByAudit used.source used.sink result
 Does (Ok Migrate) used result = ByMigrate used.source used.sink result
 Does (Ok (Companion asked)) used result =

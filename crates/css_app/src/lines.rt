@@ -2,11 +2,11 @@
 ghost use Rattle.std.specs.Prelude.{◌≡◌};
 ghost use Rattle.css_replay.specs.Devices.{sink_use, source_use};
 ghost use Rattle.css_replay.specs.Ended.{stop_status};
-ghost use Rattle.css_app.specs.Commands.{ByAgree, ByAudit, ByMigrate};
+ghost use Rattle.css_app.specs.Commands.{ByAgree, ByAudit, ByMigrate, ByPairs};
 ghost use Rattle.css_app.specs.Ended.{agree_refused, audit_refused, line_refused};
 ghost use Rattle.css_app.specs.Live.{TellsOverLines};
 
-use css_agree::{Agreeing, Cause};
+use css_agree::{Agreeing, Cause, Naming};
 use css_audit::{AuditFault, Auditing};
 use css_lines::{Refusal, Stop, drive};
 use css_migrate::Migrate;
@@ -40,6 +40,19 @@ pub(crate) fn agree<S: Source, K: Sink>(alloc: Global, source: &mut S, sink: &mu
         result }
 {
     match drive(alloc, source, sink, &mut Agreeing::new(alloc)) {
+        Ok(()) => Status::Done,
+        Err(stop) => agree_status(stop),
+    }
+}
+
+/// The same, with one line more where the answers disagree: which two of them can't both be true.
+pub(crate) fn agree_pairs<S: Source, K: Sink>(alloc: Global, source: &mut S, sink: &mut K) -> Status
+    ensures does { ByPairs (source_use S.left S.faults source.old source.new)
+        (sink_use K.holds K.faults sink.old sink.new) result }
+    ensures counted { TellsOverLines (S.faults source.old) (S.faults source.new) (K.faults sink.old) (K.faults sink.new)
+        result }
+{
+    match drive(alloc, source, sink, &mut Naming::new(alloc)) {
         Ok(()) => Status::Done,
         Err(stop) => agree_status(stop),
     }

@@ -11,13 +11,13 @@ ghost use Rattle.css_words.specs.declared.fault.WordsFault.TheVariants as words_
 ghost use Rattle.css_replay.specs.Devices.{sink_use, source_use};
 ghost use Rattle.css_replay.specs.Ended.{ByReplay, CountsCalls, CountsDials, CountsReads, CountsSpawns, CountsWrites};
 ghost use Rattle.css_replay.specs.Ended.{IsNoUsage};
-ghost use Rattle.css_app.specs.Commands.{ByAgree, ByAudit, ByCompanion, ByGenerate, ByMigrate, ByPair, ByRecord};
-ghost use Rattle.css_app.specs.Commands.{ByRelay, BySurvey, ByTv, ByWatch, Does, IsUsageUnlessMemory, asked_by};
+ghost use Rattle.css_app.specs.Commands.{ByAgree, ByAudit, ByCompanion, ByGenerate, ByMigrate, ByPair, ByPairs};
+ghost use Rattle.css_app.specs.Commands.{ByRecord, ByRelay, BySurvey, ByTv, ByWatch, Does, IsUsageUnlessMemory, asked_by};
 ghost use Rattle.css_app.specs.Commands.{uses_followers, uses_outside, uses_sink, uses_source, uses_spawner};
 ghost use Rattle.css_app.specs.Live.{TellsFaults, followers_use, outside_use, spawner_use, uses};
 
 use crate::asked::{companions_in, pair_run_of, relay_run_of, run_of, tv_run_of, watch_run_of};
-use crate::lines::{agree, audit, migrate};
+use crate::lines::{agree, agree_pairs, audit, migrate};
 use crate::live::{companion, record_companion, status_of, tv, watch_television};
 use crate::live_pair::pair;
 use crate::written::{generate, survey};
@@ -55,7 +55,8 @@ fn run_command<S: Source, K: Sink, O: Outside, P: Spawner, F: Listens>(
 {
     match command {
         Command::Replay => replay(alloc, source, sink),
-        Command::Agree => agree(alloc, source, sink),
+        Command::Agree { pairs: false } => agree(alloc, source, sink),
+        Command::Agree { pairs: true } => agree_pairs(alloc, source, sink),
         Command::Audit => audit(alloc, source, sink),
         Command::Migrate => migrate(alloc, source, sink),
         Command::Companion(words) => {
@@ -119,7 +120,8 @@ fn run_asked<S: Source, K: Sink, O: Outside, P: Spawner, F: Listens>(
 /// Runs the program: the words are those after its name.
 ///
 /// - `replay` reads a schedule from the source, and writes what each line gives to the sink before it reads on.
-/// - `agree` reads the answers of a wall clock in the same way, and tells what they say together.
+/// - `agree` reads the answers of a wall clock in the same way, and tells what they say together. With
+///   `--pairs` it names two of them where they disagree.
 /// - `audit` reads the record of a companion in the same way, and checks each report of it.
 /// - `migrate` reads a schedule of version 1 in the same way, and writes it as one of version 2.
 /// - `companion` reads a cue sheet from the source, to its end. Then it is a companion of the television at an address:
@@ -165,7 +167,11 @@ pub fn run<S: Source, K: Sink, O: Outside, P: Spawner, F: Listens>(
         (source_use S.left S.faults source.old source.new) (sink_use K.holds K.faults sink.old sink.new) result }
 
     // Answers: what is printed of them is what they say together, true in every world that makes them truthful.
-    ensures agree { asked_by words.now ≡ Ok commands.Agree → ByAgree
+    ensures agree { asked_by words.now ≡ Ok (commands.Agree false) → ByAgree
+        (source_use S.left S.faults source.old source.new) (sink_use K.holds K.faults sink.old sink.new) result }
+
+    // The same with `--pairs`: of answers that disagree two are named, which aren't both true in any such world.
+    ensures pairs { asked_by words.now ≡ Ok (commands.Agree true) → ByPairs
         (source_use S.left S.faults source.old source.new) (sink_use K.holds K.faults sink.old sink.new) result }
 
     // A record: a yes says that each report of it is the one that its companion was to make there, by the lines before

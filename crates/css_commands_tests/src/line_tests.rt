@@ -31,6 +31,22 @@ const ANSWERS: &[Lines] = &[
     ("answer 1000 5000 5200 1600 -30 0\nat 1599\nat x\n", "line 3: broken with line 2 by 1", ""),
 ];
 
+/// Which two answers are named. In the second row three answers have one lower end at 2401, and two of these declare
+/// another error. Two have one upper end. Of each the first is named.
+#[rattlefmt::skip]
+const PAIRS: &[Lines] = &[
+    ("answer 1000 5000 5200 1600 -30 0\nat 1600\nanswer 2000 15700 15900 2400 -30 0\nat 2400\n", "done",
+        "3 agree 5197 5603\n5 disagree 15897 6403\n5 between 4 2\n"),
+    ("answer 1000 5000 5200 1600 -30 0\nanswer 1000 5000 5200 1600 -30 0\nanswer 2000 15700 15900 2400 -30 1\n\
+      answer 2000 15700 15900 2400 -30 0\nanswer 2000 15700 15900 2400 -30 1\nat 2400\nat 2401\nat 2403\n", "done",
+        "7 disagree 15897 6403\n7 between 4 2\n8 disagree 15898 6404\n8 between 4 2\n9 disagree 15900 6406\n\
+         9 between 5 2\n"),
+    ("answer 1000 5000 6000 1600 -30 0\nat 1600\nat 1599\n", "line 4: broken with line 3 by 1",
+        "2 impossible\n3 none NoAnswer\n"),
+    ("answer 1000 5000 5200 1600 -30 0\nanswer 2000 15700 15900 2400 -30 0\nat 2400\nat x\n", "line 5: form",
+        "4 disagree 15897 6403\n4 between 3 2\n"),
+];
+
 /// Lines outside the grammar of answers.
 #[rattlefmt::skip]
 const NO_ANSWERS: &[Lines] = &[
@@ -65,6 +81,14 @@ fn answers_agree_or_are_refused(rt: HostRuntime) {
     check_lines(&rt, rt.alloc(), "agree", begun, ANSWERS);
     check_lines(&rt, rt.alloc(), "agree", begun, NO_ANSWERS);
     check_lines(&rt, rt.alloc(), "agree", "", HEADERS);
+}
+
+#[test]
+fn two_answers_are_named(rt: HostRuntime) {
+    let begun = "css-agree 1 0 0\n";
+    check_lines(&rt, rt.alloc(), "agree --pairs", begun, PAIRS);
+    check_lines(&rt, rt.alloc(), "agree --pairs", begun, NO_ANSWERS);
+    check_lines(&rt, rt.alloc(), "agree --pairs", "", HEADERS);
 }
 
 /// The last line of the record.

@@ -35,9 +35,12 @@ const RELAY: &str =
 
 const GENERATOR: &str = "--seed --lines --companions";
 
+const AGREE: &str = "--pairs";
+
 /// The options of a command, with a space between two of them. Those without a value come last.
 pub(crate) fn options_of(command: &str) -> &'static str {
     match command {
+        "agree" => AGREE,
         "companion" => COMPANION,
         "watch" => WATCH,
         "tv" => TV,

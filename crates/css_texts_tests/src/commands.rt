@@ -11,6 +11,7 @@ use std::process::Abort;
 const COMMANDS: &str = "\
 replay => replay
 agree => agree
+agree --pairs => agree pairs
 audit => audit
 migrate => migrate
 generate --seed 7 --lines 9 => generate 7 9
@@ -79,6 +80,9 @@ const COMPLAINTS: &str = "\
 replay -- => stray word: --
 replay x => stray word: x
 agree --seed 7 => no such option: --seed
+agree --pairs --pairs => --pairs is given twice
+agree --pairs=1 => --pairs takes no value
+agree pairs => stray word: pairs
 audit --record => no such option: --record
 migrate --companions 2 => no such option: --companions
 generate => --seed is missing
@@ -238,7 +242,7 @@ fn show_pair(out: &mut String, words: &PairWords) -> Result<(), AllocError> {
 fn name_of(command: &Command) -> &'static str {
     match command {
         Command::Replay => "replay",
-        Command::Agree => "agree",
+        Command::Agree { .. } => "agree",
         Command::Audit => "audit",
         Command::Migrate => "migrate",
         Command::Companion(_) => "companion",
@@ -254,7 +258,8 @@ fn name_of(command: &Command) -> &'static str {
 fn show(out: &mut String, command: &Command) -> Result<(), AllocError> {
     out.push_str(name_of(command))?;
     match command {
-        Command::Replay | Command::Agree | Command::Audit | Command::Migrate => Ok(()),
+        Command::Replay | Command::Audit | Command::Migrate => Ok(()),
+        Command::Agree { pairs } => out.push_str(if *pairs { " pairs" } else { "" }),
         Command::Companion(words) => show_companion(out, words),
         Command::Tv(words) => show_tv(out, words),
         Command::Pair(words) => show_pair(out, words),

@@ -1,9 +1,10 @@
 -- Words that are no option of their command.
 use Rattle.std.proofs.Common.{◌≡◌, ◌∙◌, ◌||◌, ap, refl, sym, subst, Bool, true, false, ℕ, List, [], ◌∷◌, ◌++◌, map}
-use Rattle.std.proofs.Common.{Option, Some, None, Ok, Err, codes, append_assoc, append-nil}
+use Rattle.std.proofs.Common.{true≢false, Option, Some, None, Ok, Err, codes, append_assoc, append-nil}
 use Rattle.std.specs.Prelude.{if◌then◌else◌}
 use Rattle.std.specs.List.{list_any}
 use Rattle.std.specs.Str.{bytes_eq}
+use Rattle.std.proofs.lemmas.Slice.Eq.{bytes_eq-Decides}
 use Rattle.clap.specs.Faults.{fault_of}
 use Rattle.clap.specs.Kinds.{Kinds}
 use Rattle.clap.specs.Lexer.{long_of}
@@ -13,7 +14,7 @@ use Rattle.clap.specs.Words.{App, Row, Text, matches_of}
 use Rattle.clap.specs.declared.builder.action.ArgAction.{ArgAction}
 use Rattle.clap.specs.declared.builder.action.ArgAction.TheVariants.{Set, SetTrue}
 use Rattle.css_words.specs.Commands.{Agree, Audit, Companion, Generate, Migrate, Pair, Relay, Replay, Survey, Tv, Watch}
-use Rattle.css_words.specs.Commands.{command_in, is_bare_dashes, named, no_options}
+use Rattle.css_words.specs.Commands.{command_in, has_pairs, is_bare_dashes, named, no_options}
 use Rattle.css_words.specs.Companion.{companion_flags, companion_in, companion_options, companion_rows}
 use Rattle.css_words.specs.Generator.{generator_in, generator_options, generator_rows}
 use Rattle.css_words.specs.Laws.{UnknownOptionsAreUsage, options_of_command}
@@ -49,6 +50,10 @@ no_double (word ∷ words) h =
 some_options : (before after : List Text) (word : Text) → no_options (before ++ word ∷ after) ≡ Err Usage
 some_options [] after word = refl
 some_options (other ∷ before) after word = refl
+
+-- equal values that are there are equal
+same_Some : (x y : Text × Option Text) → Some x ≡ Some y → x ≡ y
+same_Some x y e = cc
 
 -- ---- a command with any options and flags
 -- the command with these rules
@@ -129,6 +134,32 @@ module _ (name : Text) (before after : List Text) (word option : Text) (value : 
   unfolding pair_in pair_rows
   pair_usage unknown_name = rw (refused_words pair_options tv_flags unknown_name) refl
 
+  -- the only word would be the flag
+  not_pairs : list_any (λ known. bytes_eq known option) (codes "pairs" ∷ []) ≡ false
+      → (if bytes_eq word (codes "--pairs") then Ok true else Err Usage) ≡ Err Usage
+  not_pairs unknown_name = by (bytes_eq word (codes "--pairs")) refl
+    where
+      by : (b : Bool) → bytes_eq word (codes "--pairs") ≡ b → (if b then Ok true else Err Usage) ≡ Err Usage
+      by false e = refl
+      by true e =
+          let same : word ≡ codes "--pairs" = (bytes_eq-Decides word (codes "--pairs")).0 e in
+          let both : long_of (codes "--pairs") ≡ Some (option, value) = ap long_of (sym same) ∙ long in
+          let name : codes "pairs" ≡ option =
+          ap (λ (p : Text × Option Text). p.0) (same_Some (codes "pairs", None) (option, value) both) in
+          let known : list_any (λ known. bytes_eq known (codes "pairs")) (codes "pairs" ∷ []) ≡ false =
+          ap (λ (o : Text). list_any (λ known. bytes_eq known o) (codes "pairs" ∷ [])) name ∙ unknown_name in
+          absurd (true≢false known)
+
+  pairs_usage : list_any (λ known. bytes_eq known option) (codes "pairs" ∷ []) ≡ false
+      → has_pairs (before ++ word ∷ after) ≡ Err Usage
+  pairs_usage unknown_name = by before after
+    where
+      by : (front back : List Text) → has_pairs (front ++ word ∷ back) ≡ Err Usage
+      by [] [] = not_pairs unknown_name
+      by [] (next ∷ back) = refl
+      by (first ∷ []) back = refl
+      by (first ∷ second ∷ front) back = refl
+
   abbrev rest : List Text
   rest = before ++ word ∷ after
 
@@ -136,7 +167,8 @@ module _ (name : Text) (before after : List Text) (word option : Text) (value : 
   words = name ∷ rest
 
   by_tests : (replay agree audit migrate companion tv pair relay watch generate survey : Bool)
-      → list_any (λ known. bytes_eq known option) (if companion then companion_options ++ companion_flags
+      → list_any (λ known. bytes_eq known option) (if agree then codes "pairs" ∷ []
+      else if companion then companion_options ++ companion_flags
       else if tv then tv_options ++ tv_flags
       else if pair then pair_options ++ tv_flags
       else if relay then relay_options
@@ -145,7 +177,7 @@ module _ (name : Text) (before after : List Text) (word option : Text) (value : 
       else if survey then generator_options
       else []) ≡ false
       → (if replay then (no_options rest >>= λ _. Ok Replay)
-      else if agree then (no_options rest >>= λ _. Ok Agree)
+      else if agree then (has_pairs rest >>= λ pairs. Ok (Agree pairs))
       else if audit then (no_options rest >>= λ _. Ok Audit)
       else if migrate then (no_options rest >>= λ _. Ok Migrate)
       else if companion then (companion_in words >>= λ asked. Ok (Companion asked))
@@ -159,7 +191,7 @@ module _ (name : Text) (before after : List Text) (word option : Text) (value : 
   by_tests true agree audit migrate companion tv pair relay watch generate survey unknown_name =
       rw (some_options before after word) refl
   by_tests false true audit migrate companion tv pair relay watch generate survey unknown_name =
-      rw (some_options before after word) refl
+      rw (pairs_usage unknown_name) refl
   by_tests false false true migrate companion tv pair relay watch generate survey unknown_name =
       rw (some_options before after word) refl
   by_tests false false false true companion tv pair relay watch generate survey unknown_name =

@@ -1,5 +1,5 @@
 -- Which words a command line may have, and what they mean.
-use Rattle.std.specs.Prelude.{Bool, ◌||◌, if◌then◌else◌, List, [], ◌∷◌, codes, bytes_eq, Result, Ok, Err}
+use Rattle.std.specs.Prelude.{Bool, true, false, ◌||◌, if◌then◌else◌, List, [], ◌∷◌, codes, bytes_eq, Result, Ok, Err}
 use Rattle.std.specs.List.{list_any}
 use Rattle.clap.specs.Words.{Text}
 use Rattle.css_words.specs.Companion.{CompanionAsked, companion_in, companion_of}
@@ -17,7 +17,7 @@ use Rattle.css_words.specs.declared.fault.WordsFault.TheVariants.{Usage}
 -- a command, with what its options say
 pub data Asked : Type 0 where
   Replay : Asked
-  Agree : Asked
+  Agree : Bool → Asked
   Audit : Asked
   Migrate : Asked
   Companion : CompanionAsked → Asked
@@ -30,7 +30,7 @@ pub data Asked : Type 0 where
 
 abbrev pub asked_of : Command → Asked
 asked_of command.Replay = Replay
-asked_of command.Agree = Agree
+asked_of (command.Agree pairs) = Agree pairs
 asked_of command.Audit = Audit
 asked_of command.Migrate = Migrate
 asked_of (command.Companion words) = Companion (companion_of words)
@@ -50,11 +50,17 @@ abbrev pub no_options : List Text → Result (Unit {0}) WordsFault
 no_options [] = Ok tt
 no_options (word ∷ words) = Err Usage
 
+-- the words after `agree` are its flag `--pairs`, or none
+abbrev pub has_pairs : List Text → Result Bool WordsFault
+has_pairs [] = Ok false
+has_pairs (word ∷ []) = if bytes_eq word (codes "--pairs") then Ok true else Err Usage
+has_pairs (word ∷ next ∷ words) = Err Usage
+
 -- the command with this name, behind which `rest` stands; `words` are both
 unfoldable pub named : Text → List Text → List Text → Result Asked WordsFault
 named name rest words =
     if bytes_eq name (codes "replay") then (no_options rest >>= λ _. Ok Replay)
-    else if bytes_eq name (codes "agree") then (no_options rest >>= λ _. Ok Agree)
+    else if bytes_eq name (codes "agree") then (has_pairs rest >>= λ pairs. Ok (Agree pairs))
     else if bytes_eq name (codes "audit") then (no_options rest >>= λ _. Ok Audit)
     else if bytes_eq name (codes "migrate") then (no_options rest >>= λ _. Ok Migrate)
     else if bytes_eq name (codes "companion") then (companion_in words >>= λ asked. Ok (Companion asked))

@@ -16,7 +16,8 @@ use Rattle.css_words.specs.declared.fault.WordsFault.TheVariants.{Usage}
 -- the names of the options and flags of a command
 abbrev pub options_of_command : Text → List Text
 options_of_command name =
-    if bytes_eq name (codes "companion") then companion_options ++ companion_flags
+    if bytes_eq name (codes "agree") then codes "pairs" ∷ []
+    else if bytes_eq name (codes "companion") then companion_options ++ companion_flags
     else if bytes_eq name (codes "tv") then tv_options ++ tv_flags
     else if bytes_eq name (codes "pair") then pair_options ++ tv_flags
     else if bytes_eq name (codes "relay") then relay_options

@@ -20,8 +20,8 @@ use std::alloc::Global;
 pub enum Command {
     /// Replays a schedule.
     Replay,
-    /// Tells what answers say together.
-    Agree,
+    /// Tells what answers say together. With `pairs` it names two lines where they say nothing together.
+    Agree { pairs: bool },
     /// Checks each report of a companion's record.
     Audit,
     /// Turns a schedule of version 1 into one of version 2.
@@ -66,6 +66,17 @@ fn no_options(rest: &[String]) -> Result<(), WordsFault>
     }
 }
 
+// Whether the words after `agree` are its flag.
+fn has_pairs(rest: &[String]) -> Result<bool, WordsFault>
+    ensures { result ≡ commands.has_pairs (map string_bytes rest.now) }
+{
+    match rest {
+        [] => Ok(false),
+        [word] if word.as_str() == "--pairs" => Ok(true),
+        _ => Err(WordsFault::Usage),
+    }
+}
+
 // The command with this name. It has `rest` behind it, and both are `words`.
 #[tactic(auto, unfolding(crate::specs::Commands::named))]
 fn command_named(
@@ -84,8 +95,8 @@ fn command_named(
             Ok(Command::Replay)
         }
         "agree" => {
-            no_options(rest)?;
-            Ok(Command::Agree)
+            let pairs = has_pairs(rest)?;
+            Ok(Command::Agree { pairs })
         }
         "audit" => {
             no_options(rest)?;
@@ -112,7 +123,8 @@ fn command_named(
 /// value that begins with `-` needs the second form. A number is in decimal, without zeros before its digits and
 /// without `+`.
 ///
-/// - `replay`, `agree`, `audit` and `migrate` take no options.
+/// - `replay`, `audit` and `migrate` take no options.
+/// - `agree` takes the flag `--pairs`.
 /// - `companion` needs `--cii`, a `ws:` address. It takes `--selector`, `--stem`, `--reports`, a limit,
 ///   `--report-every`, `--ask-every`, `--local-error`, `--local-precision`, and both `--earliest` and `--latest`. With
 ///   the flag `--record` the selector is a word, and the stem is a word other than `-` or empty, where a word is one

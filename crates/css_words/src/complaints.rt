@@ -268,6 +268,8 @@ fn check(alloc: Global, name: &str, matches: &ArgMatches<'_>) -> Result<(), Opti
             check_relay(alloc, matches)?;
             check_dialled(alloc, matches, relay::port(matches).unwrap_or(0))
         }
+        // Its flag has no value that could be wrong.
+        "agree" => Ok(()),
         _ => check_generator(alloc, matches),
     }
 }
@@ -333,6 +335,7 @@ fn of_options<'a>(
 // What is wrong with the words of the command of this name, which has `rest` behind it.
 fn of_command(alloc: Global, name: &str, rest: &[String], words: &[String]) -> Option<Text> {
     match name {
+        "agree" => of_options(alloc, name, &[], &["pairs"], words),
         "companion" => {
             let flags = companion::FLAGS.as_slice();
             of_options(alloc, name, companion::OPTIONS.as_slice(), flags, words)

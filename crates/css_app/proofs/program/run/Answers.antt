@@ -14,6 +14,7 @@ returns g c =
       same_followers = ran.same_followers;
       replay = λ is. rw is at ran.does;
       agree = λ is. rw is at ran.does;
+      pairs = λ is. rw is at ran.does;
       audit = λ is. rw is at ran.does;
       migrate = λ is. rw is at ran.does;
       companion = λ asked is plain. (rw is at ran.does).0 plain;

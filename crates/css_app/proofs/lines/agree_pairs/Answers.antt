@@ -1,0 +1,24 @@
+-- What a run over answers that names two of them adds to the sink keeps the promise, however it ends.
+use Rattle.css_agree.proofs.Promise.{named_done, named_stop}
+use Rattle.css_replay.proofs.OverLines.{read_all, stop_ends, stopped}
+use Rattle.css_app.specs.Ended.{agree_refused}
+use Rattle.css_app.proofs.Commands.{tells_lines}
+use Rattle.css_app.proofs.lines.agree.Answers.{of_line}
+use Rattle.css_app.proofs.lines.agree_pairs.Goals as goal
+
+pub returns-in-Ok-clause-does : goal.returns-in-Ok-clause-does
+returns-in-Ok-clause-does g c =
+    record { lines = read_all c.in-Ok.ensures.ran; promise = named_done _ _ _ _ _ c.in-Ok.ensures.done }
+
+pub returns : goal.returns
+returns g c =
+    let run = c.in-Err.ensures in
+    let stop = c.in-Err.stop in
+    rw c.agree_status.ensures
+    (record {
+      does = record {
+        lines = stopped agree_refused of_line stop run.ran run.counted_reads run.counted_writes;
+        promise = named_stop _ _ _ _ stop run.stopped;
+      };
+      counted = tells_lines (stop_ends agree_refused of_line stop run.counted_reads run.counted_writes);
+    })
