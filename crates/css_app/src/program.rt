@@ -12,7 +12,8 @@ ghost use Rattle.css_replay.specs.Devices.{sink_use, source_use};
 ghost use Rattle.css_replay.specs.Ended.{ByReplay, CountsCalls, CountsDials, CountsReads, CountsSpawns, CountsWrites};
 ghost use Rattle.css_replay.specs.Ended.{IsNoUsage};
 ghost use Rattle.css_app.specs.Commands.{ByAgree, ByAudit, ByCompanion, ByGenerate, ByMigrate, ByPair, ByPairs};
-ghost use Rattle.css_app.specs.Commands.{ByRecord, ByRelay, BySurvey, ByTv, ByWatch, Does, IsUsageUnlessMemory, asked_by};
+ghost use Rattle.css_app.specs.Commands.{ByRecord, ByRelay, BySurvey, ByTv, ByWatch, Does};
+ghost use Rattle.css_app.specs.Commands.{IsUsageUnlessMemory, asked_by};
 ghost use Rattle.css_app.specs.Commands.{uses_followers, uses_outside, uses_sink, uses_source, uses_spawner};
 ghost use Rattle.css_app.specs.Live.{TellsFaults, followers_use, outside_use, spawner_use, uses};
 
