@@ -47,12 +47,13 @@ use Rattle.css_watch.specs.Visits as visits
 use Rattle.css_watch.specs.declared.ending.Watched.{Watched}
 use Rattle.css_words.specs.Commands.{Asked, Replay, Agree, Audit, Migrate}
 use Rattle.css_words.specs.declared.fault.WordsFault.{WordsFault}
-use Rattle.css_replay.specs.declared.status.Status.{Status}
-use Rattle.css_replay.specs.declared.status.Status.TheVariants as status
-use Rattle.css_replay.specs.Ended.{OverLines}
-use Rattle.css_replay.specs.Ended.{CountsReads, CountsWrites, HasNotFailed, IsNoUsage, replay_refused, stop_status}
+use Rattle.css_status.specs.declared.status.Status.{Status}
+use Rattle.css_status.specs.declared.status.Status.TheVariants as status
+use Rattle.css_status.specs.Ended.{OverLines}
+use Rattle.css_status.specs.Ended.{CountsReads, CountsWrites, HasNotFailed, IsNoUsage, stop_status}
+use Rattle.css_replay.specs.Ended.{replay_refused}
 use Rattle.css_replay.specs.Replayed.{replayed}
-use Rattle.css_replay.proofs.OverLines.{EndsLines, IsOfLine, line_ends}
+use Rattle.css_status.proofs.OverLines.{EndsLines, IsOfLine, line_ends}
 use Rattle.css_app.specs.declared.inputs.NoLine.{NoLine}
 use Rattle.css_app.specs.declared.inputs.ScriptLines.{ScriptLines}
 use Rattle.css_drive_relay.specs.Ran.{IsRelayEnd}

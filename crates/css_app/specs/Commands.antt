@@ -31,10 +31,11 @@ use Rattle.css_watch.specs.declared.config.WatchConfig.{WatchConfig}
 use Rattle.css_words.specs.Watch.{WatchAsked}
 use Rattle.css_words.specs.declared.fault.WordsFault.{WordsFault}
 use Rattle.css_words.specs.declared.fault.WordsFault.TheVariants as words
-use Rattle.css_replay.specs.declared.status.Status.{Status}
-use Rattle.css_replay.specs.declared.status.Status.TheVariants as status
-use Rattle.css_replay.specs.Devices.{SourceUse, SinkUse}
-use Rattle.css_replay.specs.Ended.{ByReplay, HasNotFailed, IsDoneUnlessMemory, OverLines}
+use Rattle.css_status.specs.declared.status.Status.{Status}
+use Rattle.css_status.specs.declared.status.Status.TheVariants as status
+use Rattle.css_status.specs.Devices.{SourceUse, SinkUse}
+use Rattle.css_status.specs.Ended.{HasNotFailed, IsDoneUnlessMemory, OverLines}
+use Rattle.css_replay.specs.Ended.{ByReplay}
 use Rattle.css_app.specs.declared.live_pair.Child.{Child}
 use Rattle.css_app.specs.Ended.{Writes, agree_refused, audit_refused, line_refused, script_in}
 use Rattle.css_app.specs.Live.{AreLeft, ArePairedAsDue, AreUntouched, EndsAtLastUnlessMemory, FollowersUse, HasNoScript}

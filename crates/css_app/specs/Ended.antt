@@ -18,9 +18,9 @@ use Rattle.css_schedule.specs.declared.fault.LineFault.{LineFault}
 use Rattle.css_schedule.specs.declared.fault.LineWhy.{LineWhy}
 use Rattle.css_schedule.specs.declared.fault.LineWhy.TheVariants.{Long, Form, Absent}
 use Rattle.css_schedule.specs.declared.line.ScriptLine.{ScriptLine}
-use Rattle.css_replay.specs.declared.status.Status.{Status}
-use Rattle.css_replay.specs.declared.status.Status.TheVariants.{BadCii, BadLine, Broken, Done, Memory, Moved}
-use Rattle.css_replay.specs.declared.status.Status.TheVariants.{WriteFault, WrongReport}
+use Rattle.css_status.specs.declared.status.Status.{Status}
+use Rattle.css_status.specs.declared.status.Status.TheVariants.{BadCii, BadLine, Broken, Done, Memory, Moved}
+use Rattle.css_status.specs.declared.status.Status.TheVariants.{WriteFault, WrongReport}
 use Rattle.css_app.specs.declared.inputs.NoLine.{NoLine}
 use Rattle.css_app.specs.declared.inputs.ScriptLines.{ScriptLines}
 

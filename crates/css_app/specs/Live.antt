@@ -36,10 +36,10 @@ use Rattle.css_watch.specs.declared.config.WatchConfig.{WatchConfig}
 use Rattle.css_watch.specs.declared.ending.Watched.{Watched}
 use Rattle.css_watch.specs.declared.ending.Watched.TheVariants as watched
 use Rattle.css_watch.specs.declared.plan.Plan as watch
-use Rattle.css_replay.specs.Devices.{SourceUse, SinkUse}
-use Rattle.css_replay.specs.Ended.{CountsCalls, CountsDials, CountsReads, CountsSpawns, CountsWrites}
-use Rattle.css_replay.specs.declared.status.Status.{Status}
-use Rattle.css_replay.specs.declared.status.Status.TheVariants as status
+use Rattle.css_status.specs.Devices.{SourceUse, SinkUse}
+use Rattle.css_status.specs.Ended.{CountsCalls, CountsDials, CountsReads, CountsSpawns, CountsWrites}
+use Rattle.css_status.specs.declared.status.Status.{Status}
+use Rattle.css_status.specs.declared.status.Status.TheVariants as status
 use Rattle.css_app.specs.Ended.{script_in}
 use Rattle.css_app.specs.declared.live_pair.Child.{Child}
 

@@ -3,7 +3,7 @@ ghost use Rattle.std.specs.Prelude.{◌≡◌, ◌∷◌, [], ◌++◌, IfErr, I
 ghost use Rattle.css_lines.specs.declared.reader.LineFault.TheVariants as lacks;
 ghost use Rattle.css_follow.specs.Sheets.{sheet_in};
 ghost use Rattle.css_schedule.specs.Ranges.{IsScriptLine};
-ghost use Rattle.css_replay.specs.Ended.{stop_status};
+ghost use Rattle.css_status.specs.Ended.{stop_status};
 ghost use Rattle.css_app.specs.Ended.{script_in};
 ghost use Rattle.css_app.specs.Live.{CountsTaking, Gives, GivesScriptText, GivesUpTo, HasNoScript, HasNoSheet};
 
@@ -11,8 +11,8 @@ use crate::lines::line_status;
 use css_follow::{Form, Sheet, SheetLines};
 use css_lines::{LineFault, Lines, PIECE, Stop, drive};
 use css_outside::{Failed, NeverFailsSink, NeverFailsSource, Source};
-use css_replay::Status;
 use css_schedule::{ScriptLine, read_script};
+use css_status::Status;
 use std::alloc::Global;
 
 // The status where a cue sheet was not read.

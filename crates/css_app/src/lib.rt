@@ -9,7 +9,7 @@ mod live_pair;
 mod program;
 mod written;
 
-pub use css_replay::{Ending, LineWhy, Status, tell};
+pub use css_status::{Ending, LineWhy, Status, tell};
 pub use live::{companion, record_companion, tv, watch_television};
 pub use live_pair::{Child, address_at, pair};
 pub use program::run;

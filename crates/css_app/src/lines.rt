@@ -1,7 +1,7 @@
 //! The commands that read their source line by line: `agree`, `audit` and `migrate`.
 ghost use Rattle.std.specs.Prelude.{◌≡◌};
-ghost use Rattle.css_replay.specs.Devices.{sink_use, source_use};
-ghost use Rattle.css_replay.specs.Ended.{stop_status};
+ghost use Rattle.css_status.specs.Devices.{sink_use, source_use};
+ghost use Rattle.css_status.specs.Ended.{stop_status};
 ghost use Rattle.css_app.specs.Commands.{ByAgree, ByAudit, ByMigrate, ByPairs};
 ghost use Rattle.css_app.specs.Ended.{agree_refused, audit_refused, line_refused};
 ghost use Rattle.css_app.specs.Live.{TellsOverLines};
@@ -11,8 +11,8 @@ use css_audit::{AuditFault, Auditing};
 use css_lines::{Refusal, Stop, drive};
 use css_migrate::Migrate;
 use css_outside::{Sink, Source};
-use css_replay::Status;
 use css_schedule::LineWhy;
+use css_status::Status;
 use std::alloc::Global;
 
 // The status of a run over answers that stopped.

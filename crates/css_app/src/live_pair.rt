@@ -2,8 +2,8 @@
 ghost use Rattle.std.specs.Prelude.{◌≡◌, ◌++◌, ◌∷◌, [], pos, List, ℕ, IfOk, OnOk, Ok, Some};
 ghost use Rattle.css_drive.specs.Configs.{IsWritable};
 ghost use Rattle.css_schedule.specs.declared.line.ScriptLine.{ScriptLine};
-ghost use Rattle.css_replay.specs.Devices.{sink_use, source_use};
-ghost use Rattle.css_replay.specs.Ended.{HasNotFailed, IsNoUsage};
+ghost use Rattle.css_status.specs.Devices.{sink_use, source_use};
+ghost use Rattle.css_status.specs.Ended.{HasNotFailed, IsNoUsage};
 ghost use Rattle.css_app.specs.Ended.{script_in};
 ghost use Rattle.css_app.specs.Live.{Pairs, PairsAsDue, TellsFaults, followers_use, outside_use, spawner_use};
 ghost use Rattle.css_app.specs.Live as live;
@@ -14,7 +14,7 @@ use css_drive::{DriveConfig, Listens, drive_companion};
 use css_follow::Sheet;
 use css_num::{Memory, Text};
 use css_outside::{Address, Limit, OutFault, Outside, Sink, Source, Spawner};
-use css_replay::Status;
+use css_status::Status;
 use std::alloc::Global;
 
 /// The television that is started beside a companion, as a child.

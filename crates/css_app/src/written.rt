@@ -6,11 +6,11 @@ ghost use Rattle.css_outside.specs.Faults.{CountsCall};
 ghost use Rattle.css_survey.specs.Generated.{schedule_text};
 ghost use Rattle.css_survey.specs.Surveyed.{survey_text};
 ghost use Rattle.css_app.specs.Ended.{CanBeDrawn, Writes};
-ghost use Rattle.css_replay.specs.Ended.{CountsWrites, HasNotFailed, IsDoneUnlessMemory, IsNoUsage};
+ghost use Rattle.css_status.specs.Ended.{CountsWrites, HasNotFailed, IsDoneUnlessMemory, IsNoUsage};
 
 use css_gen::Generator;
 use css_outside::{OutFault, Sink, write_all};
-use css_replay::Status;
+use css_status::Status;
 use std::alloc::Global;
 
 // Writes the generated lines one by one, each with its line feed.

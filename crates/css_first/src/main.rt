@@ -4,7 +4,8 @@
 #![tactic(auto)]
 
 use css_devices::{PatientWriter, StdSink, StdSource, take_standard_numbers};
-use css_replay::{replay, tell};
+use css_replay::replay;
+use css_status::tell;
 use css_told::TellingSink;
 use std::io;
 use std::process::ExitCode;

@@ -10,7 +10,7 @@ use crate::options::command_in;
 use crate::session::{bad_cii, bad_url, moved, wrong_report};
 use crate::usage::usage;
 use css_num::Text;
-use css_replay::Status;
+use css_status::Status;
 use std::alloc::Global;
 
 /// The words that help after a status, where some do.

@@ -6,8 +6,8 @@ use crate::grammar::Grammar;
 use crate::options::command_in;
 use crate::walk::first_misfit;
 use css_num::whole_number;
-use css_replay::LineWhy;
 use css_schedule::PlayerFault;
+use css_status::LineWhy;
 use std::alloc::Global;
 use std::str;
 

@@ -3,9 +3,9 @@ use Rattle.std.proofs.Common.{inl, inr, sym, ℕ, List}
 use Rattle.std.specs.Prelude.{Option}
 use Rattle.css_lines.specs.Meaning.{outcome}
 use Rattle.css_migrate.specs.Migrated.{migrated}
-use Rattle.css_replay.specs.Ended.{Reads}
-use Rattle.css_replay.specs.declared.status.Status.TheVariants.{Done}
-use Rattle.css_replay.proofs.OverLines.{never_done}
+use Rattle.css_status.specs.Ended.{Reads}
+use Rattle.css_status.specs.declared.status.Status.TheVariants.{Done}
+use Rattle.css_status.proofs.OverLines.{never_done}
 use Rattle.css_app.specs.Ended.{line_refused}
 use Rattle.css_laws.specs.Raised.{MigratedSchedulesAreReplayedAlike}
 use Rattle.css_laws.specs.Writing.{GainsAlike, WrittenIsReplayedAlike}

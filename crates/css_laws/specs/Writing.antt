@@ -3,9 +3,9 @@ use Rattle.std.specs.Prelude.{ℕ, ◌≡◌, List, Option, Some}
 use Rattle.std.specs.Io.KnownBytes.{Appends}
 use Rattle.css_lines.specs.Meaning.{outcome}
 use Rattle.css_app.specs.Commands.{ByMigrate}
-use Rattle.css_replay.specs.Devices.{SourceUse, SinkUse}
+use Rattle.css_status.specs.Devices.{SourceUse, SinkUse}
 use Rattle.css_replay.specs.Replayed.{replayed}
-use Rattle.css_replay.specs.declared.status.Status.TheVariants.{Done}
+use Rattle.css_status.specs.declared.status.Status.TheVariants.{Done}
 use Rattle.css_laws.specs.Raised.{IsRaised}
 
 -- The sink gained a schedule of which a replay says the same as of these bytes, with the number of each line raised by

@@ -2,4 +2,3 @@ pub mod Replayed
 pub mod Stands
 pub mod Ended
 pub mod Headline
-pub mod Devices

@@ -1,12 +1,13 @@
 ghost use Rattle.std.specs.Prelude.{◌≡◌};
-ghost use Rattle.css_replay.specs.Devices.{sink_use, source_use};
-ghost use Rattle.css_replay.specs.Ended.{ByReplay, CountsReads, CountsWrites, TellsNoLive, replay_refused, stop_status};
+ghost use Rattle.css_status.specs.Devices.{sink_use, source_use};
+ghost use Rattle.css_status.specs.Ended.{CountsReads, CountsWrites, TellsNoLive, stop_status};
+ghost use Rattle.css_replay.specs.Ended.{ByReplay, replay_refused};
 
 use crate::reader::{Cause, Replay};
-use crate::status::Status;
 use css_lines::{Refusal, Stop, drive};
 use css_outside::{Sink, Source};
 use css_schedule::LineWhy;
+use css_status::Status;
 use std::alloc::Global;
 
 // The status of a replay that stopped.

@@ -5,7 +5,7 @@ use Rattle.css_follow.specs.declared.line.Form.{Form}
 use Rattle.css_follow.proofs.SheetsRead.{read-ok}
 use Rattle.css_lines.specs.Lines.{lines_of}
 use Rattle.css_lines.specs.Meaning.{Outcome}
-use Rattle.css_replay.specs.declared.status.Status.TheVariants.{BadSheet}
+use Rattle.css_status.specs.declared.status.Status.TheVariants.{BadSheet}
 use Rattle.css_app.proofs.Commands.{none_at}
 use Rattle.css_app.proofs.inputs.take_sheet.Goals as goal
 

@@ -4,7 +4,7 @@ use Rattle.std.proofs.lemmas.Grind.{common_steps}
 use Rattle.css_lines.specs.declared.reader.Refusal.{Refusal}
 use Rattle.css_agree.specs.declared.reader.Cause.{Cause}
 use Rattle.css_agree.proofs.Promise.{promised_done, promised_stop}
-use Rattle.css_replay.proofs.OverLines.{IsOfLine, read_all, stop_ends, stopped}
+use Rattle.css_status.proofs.OverLines.{IsOfLine, read_all, stop_ends, stopped}
 use Rattle.css_app.specs.Ended.{agree_refused}
 use Rattle.css_app.proofs.Commands.{tells_lines}
 use Rattle.css_app.proofs.lines.agree.Goals as goal

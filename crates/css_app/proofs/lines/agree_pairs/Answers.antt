@@ -1,6 +1,6 @@
 -- What a run over answers that names two of them adds to the sink keeps the promise, however it ends.
 use Rattle.css_agree.proofs.Promise.{named_done, named_stop}
-use Rattle.css_replay.proofs.OverLines.{read_all, stop_ends, stopped}
+use Rattle.css_status.proofs.OverLines.{read_all, stop_ends, stopped}
 use Rattle.css_app.specs.Ended.{agree_refused}
 use Rattle.css_app.proofs.Commands.{tells_lines}
 use Rattle.css_app.proofs.lines.agree.Answers.{of_line}

@@ -4,7 +4,7 @@ use Rattle.std.proofs.lemmas.Grind.{common_steps}
 use Rattle.css_lines.specs.declared.reader.Refusal.{Refusal}
 use Rattle.css_audit.specs.declared.fault.AuditFault.{AuditFault}
 use Rattle.css_audit.proofs.Promise.{says_right}
-use Rattle.css_replay.proofs.OverLines.{IsOfLine, never_done, read_all, stop_ends, stopped}
+use Rattle.css_status.proofs.OverLines.{IsOfLine, never_done, read_all, stop_ends, stopped}
 use Rattle.css_app.specs.Ended.{audit_refused}
 use Rattle.css_app.proofs.Commands.{tells_lines}
 use Rattle.css_app.proofs.lines.audit.Goals as goal

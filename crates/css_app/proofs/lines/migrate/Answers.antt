@@ -1,4 +1,4 @@
-use Rattle.css_replay.proofs.OverLines.{stop_ends, stopped}
+use Rattle.css_status.proofs.OverLines.{stop_ends, stopped}
 use Rattle.css_app.specs.Ended.{line_refused}
 use Rattle.css_app.proofs.Commands.{tells_lines}
 use Rattle.css_app.proofs.lines.migrate.Goals as goal

@@ -1,7 +1,7 @@
 use Rattle.std.proofs.Common.{refl, inl, inr}
 use Rattle.css_follow.specs.Sheets.{sheet_in}
 use Rattle.css_follow.specs.declared.fault.SheetFault.TheVariants.{Line}
-use Rattle.css_replay.specs.declared.status.Status.TheVariants.{BadSheet}
+use Rattle.css_status.specs.declared.status.Status.TheVariants.{BadSheet}
 use Rattle.css_app.proofs.Commands.{as_due, driven_tells, took_none}
 use Rattle.css_app.proofs.live.companion.Goals as goal
 

@@ -7,7 +7,7 @@ use Rattle.css_replay.specs.Ended.{replay_refused}
 use Rattle.css_replay.specs.Headline.{KeepsPromise}
 use Rattle.css_replay.specs.Replayed.{replayed}
 use Rattle.css_replay.specs.declared.reader.Cause.{Cause}
-use Rattle.css_replay.proofs.OverLines.{IsOfLine, read_all, stop_ends, stopped}
+use Rattle.css_status.proofs.OverLines.{IsOfLine, read_all, stop_ends, stopped}
 use Rattle.css_replay.proofs.Texts.{so_far, in_all, front_keeps}
 use Rattle.css_replay.proofs.replaying.replay.Goals as goal
 

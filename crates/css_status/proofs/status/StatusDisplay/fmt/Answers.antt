@@ -1,7 +1,7 @@
 -- What is written piece by piece is the words of the status.
 use Rattle.std.proofs.Common.{append_assoc}
 use Rattle.std.proofs.Output.{has_written_of_eq}
-use Rattle.css_replay.proofs.status.StatusDisplay.fmt.Goals as goal
+use Rattle.css_status.proofs.status.StatusDisplay.fmt.Goals as goal
 
 pub returns-in-Broken-clause-writes : goal.returns-in-Broken-clause-writes
 returns-in-Broken-clause-writes g c =

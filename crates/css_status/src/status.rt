@@ -83,7 +83,7 @@ pub enum Status {
 
 impl Status {
     ghost use Rattle.std.specs.Prelude.{◌≡◌};
-    ghost use Rattle.css_replay.specs.Ended.{status_number};
+    ghost use Rattle.css_status.specs.Ended.{status_number};
 
     /// The exit status of the program.
     pub fn number(&self) -> u8
@@ -113,7 +113,7 @@ impl Status {
 
 impl fmt::Display for Status {
     ghost use Rattle.std.specs.Prelude.{Some};
-    ghost use Rattle.css_replay.specs.Ended.{status_words};
+    ghost use Rattle.css_status.specs.Ended.{status_words};
 
     ghost output = { λ status. Some (status_words status) };
 

@@ -2,7 +2,7 @@ ghost use Rattle.std.specs.Prelude.{◌≡◌, OnOk, OnErr};
 ghost use Rattle.std.specs.Io.KnownBytes.{Appends};
 ghost use Rattle.css_outside.specs.Bytes.{AppendsPrefix};
 ghost use Rattle.css_outside.specs.Faults.{CountsCall};
-ghost use Rattle.css_replay.specs.Ended.{status_line, status_number};
+ghost use Rattle.css_status.specs.Ended.{status_line, status_number};
 
 use crate::status::Status;
 use css_outside::{OutFault, Sink, write_all};

@@ -7,12 +7,12 @@ use Rattle.css_lines.specs.Ending.{RanToEnd, RanUntil, SourceCounts, SinkCounts}
 use Rattle.css_lines.specs.declared.reader.Refusal.{Refusal}
 use Rattle.css_lines.specs.declared.ending.Stop.{Stop}
 use Rattle.css_lines.specs.declared.ending.Stop.TheVariants as stops
-use Rattle.css_replay.specs.declared.status.Status.{Status}
-use Rattle.css_replay.specs.declared.status.Status.TheVariants.{Done, Usage, ReadFault, WriteFault, NetFault}
-use Rattle.css_replay.specs.declared.status.Status.TheVariants.{Unreachable, ChildFault}
-use Rattle.css_replay.specs.Devices.{SourceUse, SinkUse}
-use Rattle.css_replay.specs.Ended.{CountsReads, CountsWrites, HasNotFailed, IsDoneUnlessMemory, IsNoUsage, OverLines}
-use Rattle.css_replay.specs.Ended.{TellsNoLive, status_line, status_words, stop_status}
+use Rattle.css_status.specs.declared.status.Status.{Status}
+use Rattle.css_status.specs.declared.status.Status.TheVariants.{Done, Usage, ReadFault, WriteFault, NetFault}
+use Rattle.css_status.specs.declared.status.Status.TheVariants.{Unreachable, ChildFault}
+use Rattle.css_status.specs.Devices.{SourceUse, SinkUse}
+use Rattle.css_status.specs.Ended.{CountsReads, CountsWrites, HasNotFailed, IsDoneUnlessMemory, IsNoUsage, OverLines}
+use Rattle.css_status.specs.Ended.{TellsNoLive, status_line, status_words, stop_status}
 
 -- the line of a status that has one
 pub line_of_words : (status : Status) → (status ≡ Done → ⊥)
