@@ -29,3 +29,9 @@ kept_with-at own r a (x ∷ xs) (suc i) d h before here =
     let first : (x.low.error == a.error) ≡ false = before 0 (omega arith) in
     rw first (ap (λ ys. x ∷ ys)
     (kept_with-at own r a xs i d (omega arith) (λ k below. before (suc k) (omega arith)) here))
+
+-- what made room at a place comes back
+pub undone-at : (xs : List Best) (i : ℕ) (b d : Best) → set (set xs i b) i (get_or xs i d) ≡ xs
+undone-at [] i b d = refl
+undone-at (x ∷ xs) zero b d = refl
+undone-at (x ∷ xs) (suc i) b d = ap (λ ys. x ∷ ys) (undone-at xs i b d)

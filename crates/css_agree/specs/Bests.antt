@@ -1,7 +1,9 @@
 -- Which answers tell the two ends of the wall clock's span best, before the ends are rounded.
-use Rattle.std.specs.Prelude.{ℕ, ◌≡◌, ◌==◌, ◌≤ℤ◌, int_lt, if◌then◌else◌, List, [], ◌∷◌, Option, Some, None}
+use Rattle.std.specs.Prelude.{ℕ, ◌≡◌, ◌-◌, ◌<◌, ◌==◌, ◌≤ℤ◌, int_lt, if◌then◌else◌, List, [], ◌∷◌, length, take, set}
+use Rattle.std.specs.Prelude.{Option, Some, None, IfSome}
 use Rattle.css_model.specs.WallClock.{Answer, Local, lower, upper}
 use Rattle.css_agree.specs.declared.best.Best.{Best}
+use Rattle.css_agree.specs.declared.best.Replaced.{Replaced}
 
 -- of two answers the one with the greater lower end at the reading; of equals the first
 abbrev pub higher_low : Local → ℕ → Answer → Answer → Answer
@@ -41,6 +43,20 @@ kept_with own reading answer (best ∷ bests) =
     if best.low.error == answer.error
     then better_of own reading best (alone answer) ∷ bests
     else best ∷ kept_with own reading answer bests
+
+-- what made room for an answer has its place among these
+abbrev pub HasPlace : Option Replaced → List Best → Type 0
+HasPlace replaced bests = IfSome replaced (λ replaced. replaced.place < length bests)
+
+-- what was kept before: without the last one, or with the one that made room
+abbrev pub undone : Option Replaced → List Best → List Best
+undone None bests = take (length bests - 1) bests
+undone (Some replaced) bests = set bests replaced.place replaced.best
+
+-- it says how to come back to the old ones
+pub record Undoes (replaced : Option Replaced) (new old : List Best) : Type 0 where
+  pub place : HasPlace replaced new
+  pub back : undone replaced new ≡ old
 
 -- two answers of one declared error have their lower ends in one order at all readings, and their upper ends too
 pub record MoveAlike (own : Local) (first second : Answer) : Type 0 where

@@ -4,6 +4,8 @@ use Rattle.std.specs.Prelude.{List, [], ◌∷◌, length, All, Contains}
 use Rattle.css_model.specs.Wire.{second}
 use Rattle.css_model.specs.WallClock.{Answer, Local, IsLocal, lower, upper}
 use Rattle.css_span.specs.Frontiers.{Answers, IsPossible, declares, error_count}
+use Rattle.css_agree.specs.Bests.{HasPlace, undone}
+use Rattle.css_agree.specs.declared.agree.Added.{Added}
 use Rattle.css_agree.specs.declared.best.Best.{Best}
 
 -- The companion's own clock, what is kept, and the greatest reading at which an answer was added, 0 where none was.
@@ -61,3 +63,17 @@ pub record Adds (old new : Kept) (answer : Answer) (reading : ℕ) : Type 0 wher
   pub local : new.local ≡ old.local
   pub floor : new.floor ≡ max old.floor reading
   pub stands : (added : Answers) → StandsFor old added → StandsFor new (answer ∷ added)
+
+-- what was kept before an answer was added
+abbrev pub before : Added → Kept → Kept
+before added kept = record kept { bests = undone added.replaced kept.bests; floor = added.floor }
+
+-- the answer that was added last can be taken back
+pub record CanGoBack (added : Added) (kept : Kept) : Type 0 where
+  pub place : HasPlace added.replaced kept.bests
+  pub valid : IsKept (before added kept)
+
+-- it can, and then it is as before
+pub record GoesBack (added : Added) (new old : Kept) : Type 0 where
+  pub can : CanGoBack added new
+  pub back : before added new ≡ old

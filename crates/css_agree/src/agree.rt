@@ -1,13 +1,13 @@
-ghost use Rattle.std.specs.Prelude.{◌≡◌, ◌≤◌, ◌<◌, ◌*◌, max, [], length, OnOk, OnErr};
+ghost use Rattle.std.specs.Prelude.{◌≡◌, ◌≤◌, ◌<◌, ◌*◌, max, [], length, IfOk, OnOk, OnErr};
 ghost use Rattle.css_num.specs.Gives.{GivesBy};
 ghost use Rattle.css_span.specs.Frontiers.{Answers, error_count};
 ghost use Rattle.css_agree.specs.Agreements.{AgreesAt, ArePossible, TellsTruth};
 ghost use Rattle.css_agree.specs.Disagreements.{disagree};
-ghost use Rattle.css_agree.specs.Keeping.{StandsFor, Adds};
+ghost use Rattle.css_agree.specs.Keeping.{StandsFor, Adds, CanGoBack, GoesBack, before};
 ghost use Rattle.css_agree.specs.Verdicts.{verdict};
 
 use crate::agreed::Agreed;
-use crate::best::{Best, best_of_all, keep};
+use crate::best::{Best, Replaced, best_of_all, keep, take_back};
 use crate::ends::{highest, lowest};
 use crate::fault::AgreeFault;
 use css_model::LIMIT;
@@ -24,6 +24,13 @@ use std::marker::Model;
 pub struct Agree {
     local: Local,
     kept: Vec<Best>,
+    floor: u64,
+}
+
+/// What an agreement was before an answer was added, for [`Agree::take_back`].
+#[derive(Clone, Copy)]
+pub struct Added {
+    replaced: Option<Replaced>,
     floor: u64,
 }
 
@@ -63,13 +70,38 @@ impl Agree {
         // Whatever the answer, the floor rises no further than to the reading.
         ensures next { self.new.floor ≤ max self.old.floor reading }
     {
+        match self.try_add(answer, reading) {
+            Ok(_) => Ok(()),
+            Err(fault) => Err(fault),
+        }
+    }
+
+    /// [`Agree::add`], with what [`Agree::take_back`] needs.
+    pub fn try_add(&mut self, answer: Answer, reading: u64) -> Result<Added, AgreeFault>
+        requires range { reading < LIMIT }
+        ensures verdict { GivesBy (λ _. tt) AgreeFault.Memory result (verdict self.old.local reading answer) }
+        ensures ok { OnOk result (Adds self.old self.new answer reading) }
+        ensures undone { IfOk result (λ added. GoesBack added self.new self.old) }
+        ensures err { OnErr result (self.new ≡ self.old) }
+        ensures next { self.new.floor ≤ max self.old.floor reading }
+    {
         let width = scaled_width(&answer, &self.local, reading);
         if width < 0 {
             return Err(AgreeFault::Impossible(width));
         }
-        keep(&mut self.kept, &self.local, answer, reading)?;
+        let replaced = keep(&mut self.kept, &self.local, answer, reading)?;
+        let floor = self.floor;
         self.floor = self.floor.max(reading);
-        Ok(())
+        Ok(Added { replaced, floor })
+    }
+
+    /// Takes the answer back that was added last, by [`Agree::try_add`].
+    pub fn take_back(&mut self, added: &Added)
+        requires { CanGoBack added.now self.old }
+        ensures { self.new ≡ before added.now self.old }
+    {
+        take_back(&mut self.kept, &added.replaced);
+        self.floor = added.floor;
     }
 
     /// Forgets all answers, as where the companion slept.

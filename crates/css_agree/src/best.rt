@@ -1,4 +1,4 @@
-ghost use Rattle.std.specs.Prelude.{◌≡◌, ◌≢◌, ◌==◌, ◌<◌, reverse, position, All, IfNone, OnOk, OnErr};
+ghost use Rattle.std.specs.Prelude.{◌≡◌, ◌≢◌, ◌==◌, ◌<◌, reverse, position, All, IfNone, IfOk, OnOk, OnErr};
 ghost use Rattle.css_model.specs.WallClock.{IsAnswer};
 ghost use Rattle.css_agree.specs.Bests as bests;
 
@@ -14,6 +14,13 @@ pub(crate) struct Best {
     pub(crate) low: Answer,
     /// The answer whose upper end, before it is rounded, is least.
     pub(crate) high: Answer,
+}
+
+/// The best of a declared error that made room for a better one, and its place.
+#[derive(Clone, Copy)]
+pub(crate) struct Replaced {
+    pub(crate) place: usize,
+    pub(crate) best: Best,
 }
 
 /// The better answer of the two at each end; of equals the first.
@@ -45,15 +52,16 @@ pub(crate) fn best_of_all(kept: &[Best], local: &Local, reading: u64) -> Option<
 }
 
 /// Takes an answer in: of those of its declared error the best at each end are kept. The ends of answers of one error
-/// move alike, so none that is dropped would be the best later.
+/// move alike, so none that is dropped would be the best later. It tells what made room for it, if something did.
 pub(crate) fn keep(
     kept: &mut Vec<Best>,
     local: &Local,
     answer: Answer,
     reading: u64,
-) -> Result<(), Memory>
+) -> Result<Option<Replaced>, Memory>
     requires { reading < LIMIT }
     ensures ok { OnOk result (kept.new.items ≡ bests.kept_with local.now reading answer kept.old.items) }
+    ensures undone { IfOk result (λ replaced. bests.Undoes replaced kept.new.items kept.old.items) }
     ensures err { OnErr result (kept.new.items ≡ kept.old.items) }
 
     // The caller never reads the answer's fields, so it learns of their ranges here.
@@ -64,10 +72,29 @@ pub(crate) fn keep(
         high: answer,
     };
     match place_of(kept, answer.error) {
-        None => kept.push(alone)?,
-        Some(place) => kept[place] = better(&kept[place], &alone, local, reading),
+        None => {
+            kept.push(alone)?;
+            Ok(None)
+        }
+        Some(place) => {
+            let best = kept[place];
+            kept[place] = better(&best, &alone, local, reading);
+            Ok(Some(Replaced { place, best }))
+        }
     }
-    Ok(())
+}
+
+/// Undoes what [`keep`] did.
+pub(crate) fn take_back(kept: &mut Vec<Best>, replaced: &Option<Replaced>)
+    requires { bests.HasPlace replaced.now kept.old.items }
+    ensures { kept.new.items ≡ bests.undone replaced.now kept.old.items }
+{
+    match replaced {
+        None => {
+            let _ = kept.pop();
+        }
+        Some(replaced) => kept[replaced.place] = replaced.best,
+    }
 }
 
 fn place_of(kept: &[Best], error: u32) -> Option<usize>

@@ -18,7 +18,7 @@ mod naming;
 mod printing;
 mod reader;
 
-pub use agree::Agree;
+pub use agree::{Added, Agree};
 pub use agreed::Agreed;
 pub use css_span::{Answer, Local, Span};
 pub use fault::AgreeFault;
