@@ -54,7 +54,7 @@ static css_position position;
 static css_readings readings;
 static css_rate rate;
 static css_snapshot copy;
-static uint64_t last;
+static uint64_t last, look;
 
 static uint32_t nothing(css_companion *c) { return c == NULL; }
 static uint32_t answered(css_companion *c) {
@@ -77,6 +77,8 @@ static uint32_t wall(css_companion *c) { return css_companion_wall(c, reading + 
 static uint32_t ticks(css_companion *c) { return css_companion_position(c, reading + 1000000, &position); }
 static uint32_t lead(css_companion *c) { return css_companion_lead(c, reading + 1000000, 950000, &span); }
 static uint32_t when(css_companion *c) { return css_companion_when(c, 2000000, &readings); }
+static uint32_t agreed(css_companion *c) { return css_companion_agreed(c, reading + 1000000, &span); }
+static uint32_t next(css_companion *c) { return css_companion_next(c, 10000000, 2000000, &last, &look); }
 static uint32_t until(css_companion *c) { return css_companion_until(c, 10000000, &last); }
 static uint32_t snapshot(css_companion *c) { return css_companion_snapshot(c, &copy); }
 static uint32_t copied(css_companion *c) { return c ? css_snapshot_position(&copy, reading + 1000000, &position) : 1; }
@@ -96,7 +98,8 @@ static const struct {
     {"late", late},         {"wall", wall},         {"position", ticks},    {"lead", lead},
     {"when", when},         {"until", until},       {"snapshot", snapshot}, {"copied", copied},
     {"slept", slept},       {"setup", setup},       {"timeline", timeline}, {"ts_closed", ts_closed},
-    {"control", hear_ts},   {"spaced", hear_spaced}, {"cii", hear_cii},
+    {"control", hear_ts},   {"spaced", hear_spaced}, {"cii", hear_cii},   {"agreed", agreed},
+    {"next", next},
 };
 
 int main(int argc, char **argv) {

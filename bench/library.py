@@ -17,7 +17,7 @@ HERE = Path(__file__).resolve().parent
 CALLS = {"ask": "answered", "exchange": "ask", "late": "nothing", "wall": "nothing", "position": "nothing",
          "lead": "nothing", "when": "nothing", "until": "nothing", "snapshot": "nothing", "copied": "nothing",
          "slept": "nothing", "timeline": "nothing", "setup": "nothing", "ts_closed": "nothing", "control": "nothing",
-         "spaced": "nothing", "cii": "nothing"}
+         "spaced": "nothing", "cii": "nothing", "agreed": "nothing", "next": "nothing"}
 NAMES = {"exchange": "land", "late": "land, for the oldest of 64 requests", "copied": "snapshot position",
          "control": "control, as css writes it", "spaced": "control, with spaces"}
 COUNT = 200

@@ -12,7 +12,9 @@ libraries that `rt ci` left. What runs, side by side, and under valgrind where t
 - the header in C++, and for an ARM machine;
 - each call once more, by the library of the Debian package, and by the shared object, which exports these calls alone;
 - on ARM, which qemu plays: each call, the random calls, which tell the same there, and examples/follow;
-- the tests of the Rust package, there too;
+- docs/LIBRARY.md's loop in C, as it stands there, beside a television with 60 ms of delay: over a tick that is waited
+  for, while CII closes its session and the television goes away for a while. It asks at most twice a second;
+- the tests of the Rust package, there too, and that page's loop in Rust, which is compiled;
 - examples/follow and examples/player. They follow a television on loopback that is paused and sought, and whose TS
   session is closed and opened again: one by hand, or that of css where CSS, or $CSS, is a command that runs it.
 
@@ -38,6 +40,7 @@ from package import pack_library
 
 live_server.OFFSET = 0
 
+PAGE = TOP / "docs" / "LIBRARY.md"
 TESTS, EXAMPLES = TOP / "tests" / "library", TOP / "examples"
 RANDOM_CALLS = "1000000"
 REPORTS = "60"
@@ -107,6 +110,54 @@ class Television(live_server.Server):
             peer.say(control)
 
 
+class Distant(live_server.Server):
+    """One whose datagrams take 60 ms. Its first session of CII closes soon, and then it's away for a while."""
+    DELAY, AWAY, BACK = 0.06, 3, 6
+
+    def __init__(self, port):
+        super().__init__(port, "")
+        self.asked = 0
+
+    def is_away(self):
+        return self.AWAY <= (live_server.wall() - self.began) / 1e9 < self.BACK
+
+    def clock(self):
+        while not self.ends:
+            try:
+                data, sender = self.udp.recvfrom(64)
+            except (OSError, ValueError):
+                return
+            self.asked += 1
+            if not self.is_away():
+                threading.Timer(self.DELAY / 2, self.answer, (data, sender)).start()
+
+    def answer(self, data, sender):
+        now = live_server.stamp(live_server.wall())
+        answer = bytes([0, 1, 0xec, 0]) + (128000).to_bytes(4, "big") + data[8:16] + now + now
+        threading.Timer(self.DELAY / 2, self.udp.sendto, (answer, sender)).start()
+
+    def greet(self, name, conn):
+        if self.is_away():
+            conn.close()
+        else:
+            super().greet(name, conn)
+
+    def cii(self, peer):
+        peer.say(live_server.state_of(self.port))
+        if live_server.wall() - self.began < self.AWAY * 1e9:
+            time.sleep(max(0, self.AWAY - (live_server.wall() - self.began) / 1e9))
+            peer.say((1001).to_bytes(2, "big"), live_server.CLOSE)
+
+    def ts(self, peer):
+        peer.hear()
+        peer.say(self.control())
+
+
+def blocks_of(page, language):
+    """The blocks of a language on a page, in their order."""
+    return [part.split("```")[0] for part in page.read_text().split(f"```{language}\n")[1:]]
+
+
 class Suite:
     def __init__(self, library, room, over):
         self.library, self.room, self.over, self.check = library, room, over, Checks()
@@ -148,6 +199,28 @@ class Suite:
         for compiler, words, needed in (("g++", ["-std=c++17", "-x", "c++"], "g++"), (ARM, ["-x", "c"], ARM_HEADER)):
             if self.has(compiler, f"the header by {compiler}") and self.has(needed, f"the header by {compiler}"):
                 self.run(f"the header by {compiler}", [compiler, *words, *WARNINGS, "-fsyntax-only", header])
+
+    def as_the_page_says(self):
+        """The page's loop asks seldom, sleeps in between, and shows the question once its tick has come."""
+        yours, loop = [it for it in blocks_of(PAGE, "c") if "yours.h" in it]
+        (self.room / "yours.h").write_text("#ifndef YOURS_H\n#define YOURS_H\n" + yours + "#endif\n")
+        source = self.room / "loop.c"
+        source.write_text(loop)
+        sources = [source, TESTS / "yours.c", EXAMPLES / "follow" / "session.c"]
+        program = self.built(sources, f"-I{self.room}", f"-I{EXAMPLES}/follow")
+        television = Distant(self.port + 4)
+        seconds = 10
+        question = live_server.START + seconds * 90000
+        ran = subprocess.run([program, f"ws://127.0.0.1:{self.port + 4}/cii", str(question)],
+                             stdout=subprocess.PIPE, text=True, timeout=60, check=False)
+        told = ran.stdout.split()
+        television.end()
+        is_told = ran.returncode == 0 and told[:2] == ["shown", "at"]
+        late = (int(told[2]) + live_server.OFFSET - television.began) / 1e9 - seconds if is_told else None
+        self.check("the page's loop shows the question once it has surely come", is_told and 0 <= late < 1, ran.stdout)
+        requests, used = (int(told[4]), int(told[8])) if is_told else (0, 0)
+        self.check("it asks at most twice a second", 0 < requests <= 2 * (seconds + 1), requests)
+        self.check("it takes less than 1 % of a processor", used < seconds * 10, used)
 
     def packaged(self):
         """The library of the Debian package, whose symbols of debugging are taken off."""
@@ -238,6 +311,17 @@ class Suite:
         tests = max(made.glob("calls-*[0-9a-f]"), key=os.path.getmtime)
         self.run("its tests under valgrind", [*self.valgrind, tests, "--test-threads", "1"])
 
+    def as_the_page_says_in_rust(self):
+        """The page's loop in Rust compiles, and ends where nobody is there."""
+        place = self.room / "loop_in_rust"
+        (place / "src").mkdir(parents=True)
+        package = f'[package]\nname = "loop_in_rust"\nversion = "0.1.0"\nedition = "2021"\n\n[dependencies]\n'
+        (place / "Cargo.toml").write_text(package + f'css-companion = {{ path = "{TOP}/rust/css-companion" }}\n')
+        blocks = [(TESTS / "yours.rs").read_text(), *blocks_of(PAGE, "rust")]
+        (place / "src" / "main.rs").write_text("\n".join(blocks))
+        ran = self.cargo(["run"], place)
+        self.run("the page's loop in Rust compiles", ran["args"], cwd=ran["cwd"], env=ran["env"])
+
     def with_television(self, css, port, what, command):
         """Runs a program that follows a television on loopback. Its words are of a function of the television's URL."""
         television = Program(css, port) if css else Television(port)
@@ -259,10 +343,10 @@ class Suite:
 
     def all(self, css):
         """Makes all of these side by side."""
-        parts = [(self.in_c,), (self.packaged,), (self.shared,), (self.at_random,), (self.application_in_c, css),
-                 (self.on_arm, css)]
+        parts = [(self.in_c,), (self.as_the_page_says,), (self.packaged,), (self.shared,), (self.at_random,)]
+        parts += [(self.application_in_c, css), (self.on_arm, css)]
         if self.has("cargo", "the Rust package and its application"):
-            parts += [(self.in_rust,), (self.application_in_rust, css)]
+            parts += [(self.in_rust,), (self.as_the_page_says_in_rust,), (self.application_in_rust, css)]
         threads = [threading.Thread(target=self.guarded, args=part) for part in parts]
         for thread in threads:
             thread.start()

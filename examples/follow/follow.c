@@ -49,13 +49,15 @@ static int begin(follower *f, const char *url) {
 }
 
 /* ---- a turn */
-/* Datagrams come first, each with the reading at its landing. */
-static void hear_clock(follower *f) {
+/* Datagrams come first, each with the reading at its landing. 0 where their answers agree. */
+static int hear_clock(follower *f) {
     uint8_t in[64];
     for (ssize_t got; f->udp >= 0 && (got = recv(f->udp, in, sizeof in, MSG_DONTWAIT)) >= 0;) {
         uint32_t code = css_companion_land(&f->companion, in, got, css_reading());
         if (code) fprintf(stderr, "datagram: %s\n", word(code));
+        if (code == CSS_DISAGREE) return 1;
     }
+    return 0;
 }
 
 /* 0 where the session goes on. */
@@ -172,8 +174,7 @@ static void wait_for_any(const follower *f) {
 static int turn(follower *f) {
     wait_for_any(f);
     if (css_has_slept(&f->sleep)) css_companion_slept(&f->companion);
-    hear_clock(f);
-    if (hear_content(f)) return 1;
+    if (hear_clock(f) || hear_content(f)) return 1;
     hear_timeline(f);
     dial_what_is_told(f);
     uint64_t now = css_reading();

@@ -57,6 +57,17 @@ static void wall_clock(css_companion *c) {
     IS(css_companion_snapshot(c, &copy), CSS_NO_TIMESTAMP);
 }
 
+/* what was refused, in words */
+static void faults(css_companion *c, const char *words) {
+    uint8_t out[64];
+    size_t used = 0;
+    IS(css_companion_fault(c, out, sizeof out, &used), words ? CSS_DONE : CSS_NULL);
+    if (!words) return;
+    IS(used == strlen(words) && !memcmp(out, words, used), 1);
+    IS(css_companion_fault(c, out, strlen(words) - 1, &used), CSS_NO_ROOM);
+    IS(used, strlen(words));
+}
+
 static void listed(css_companion *c) {
     uint8_t out[64];
     size_t used = 0;
@@ -76,12 +87,20 @@ static void content(css_companion *c) {
     css_rate rate;
     IS(css_companion_timeline(c, 0, &rate, out, sizeof out, &used), CSS_NULL);
     IS(css_companion_cii_field(c, CSS_WC_URL, out, sizeof out, &used), CSS_NULL);
+    faults(c, NULL);
     IS(css_companion_cii(c, TEXT("{")), CSS_NOT_JSON);
+    faults(c, NULL);
     IS(css_companion_cii(c, NULL, 0), CSS_NOT_JSON);
     IS(css_companion_cii(c, TEXT("[]")), CSS_NOT_OBJECT);
     IS(css_companion_cii(c, TEXT("{\"wcUrl\":5}")), CSS_FIELD);
+    faults(c, "wcUrl");
     IS(css_companion_cii(c, TEXT(cii)), CSS_DONE);
+    faults(c, NULL);
+    IS(css_companion_cii(c, TEXT("{\"tsUrl\":\"ws://10.0.0.1:1\"}")), CSS_MOVED);
+    faults(c, "tsUrl");
     IS(css_companion_cii(c, TEXT("{\"wcUrl\":\"udp://10.0.0.1:1\"}")), CSS_MOVED);
+    faults(c, "wcUrl");
+    IS(css_companion_cii(c, TEXT("{}")), CSS_DONE);
     IS(css_companion_cii_field(c, CSS_WC_URL, out, sizeof out, &used), CSS_DONE);
     IS(used == 22 && !memcmp(out, "udp://192.168.1.5:5800", 22), 1);
     IS(css_companion_cii_field(c, 8, out, sizeof out, &used), CSS_RANGE);
@@ -191,8 +210,12 @@ static void timeline(css_companion *c) {
     copied(c);
     IS(css_companion_report(c, 7, 1600, out, sizeof out, &used), CSS_DONE);
     IS(used == 22 && !memcmp(out, "7 ticks 900000 900000\n", 22), 1);
+    IS(css_companion_control(c, TEXT("{\"contentTime\":5}")), CSS_DONE);
+    IS(css_companion_position(c, 1600, &p), CSS_UNREADABLE);
+    faults(c, "Field contentTime");
     IS(css_companion_control(c, TEXT("oh")), CSS_DONE);
     IS(css_companion_position(c, 1600, &p), CSS_UNREADABLE);
+    faults(c, "NotJson");
     uint64_t age = css_companion_age(c);
     IS(css_companion_ts_closed(c), CSS_DONE);
     IS(css_companion_age(c), age + 1);
@@ -238,6 +261,103 @@ static void two_answers(void) {
     IS(when.from, 995997);
     IS(when.to, 1007346);
     IS(when.from <= 1000000 - 3800 && 1011111 - 3800 <= when.to, 1);
+    css_companion_free(&c);
+}
+
+/* A television that sets its clock 4000 ns forward: from the first answer that contradicts the one before it nothing is
+ * told, until a sleep. Its own answer then stands alone. */
+static void set_forward(void) {
+    css_companion c = CSS_NONE;
+    uint8_t request[32], second[32], out[64];
+    css_span wall, both;
+    css_position p;
+    css_readings when;
+    css_snapshot before;
+    size_t used;
+    uint64_t age, ask = 7, look = 7;
+    IS(css_companion_new(&c, TEXT("urn:dvb:css:timeline:pts"), NULL, 0, 0, 0), CSS_DONE);
+    IS(css_companion_control(&c, TEXT(control)), CSS_DONE);
+    IS(css_companion_agreed(&c, 900, &both), CSS_NO_ANSWER);
+    IS(css_companion_ask(&c, 1000, request), CSS_DONE);
+    IS(css_companion_land(&c, answer, 32, 1600), CSS_DONE);
+    IS(css_companion_agreed(&c, 1600, &both), CSS_DONE);
+    IS(both.lo == 5197 && both.hi == 5603, 1);
+    IS(css_companion_agreed(&c, 900, &both), CSS_EARLY);
+    IS(css_companion_snapshot(&c, &before), CSS_DONE);
+    memcpy(second, answer, 32);
+    second[14] = 0x07, second[15] = 0xd0; /* originate: 2000 */
+    second[22] = 0x27, second[23] = 0x74; /* receive: 10100 */
+    second[30] = 0x27, second[31] = 0xa6; /* transmit: 10150 */
+    IS(css_companion_ask(&c, 2000, request), CSS_DONE);
+    age = css_companion_age(&c);
+    IS(css_companion_land(&c, second, 32, 2380), CSS_DISAGREE);
+    IS(css_companion_age(&c), age + 1);
+    IS(css_companion_wall(&c, 2380, &wall), CSS_DISAGREE);
+    IS(css_companion_wall(&c, 5, &wall), CSS_EARLY);
+    IS(css_companion_agreed(&c, 2380, &both), CSS_DISAGREE);
+    IS(css_companion_position(&c, 2380, &p), CSS_DISAGREE);
+    IS(css_companion_lead(&c, 2380, 900000, &wall), CSS_DISAGREE);
+    IS(css_companion_when(&c, 900090, &when), CSS_DISAGREE);
+    IS(css_companion_until(&c, 1000, &ask), CSS_DISAGREE);
+    IS(css_companion_snapshot(&c, &copy), CSS_DISAGREE);
+    IS(css_companion_next(&c, 1000, 900090, &ask, &look), CSS_DISAGREE);
+    IS(ask == 7 && look == 7, 1);
+    IS(css_snapshot_position(&before, 2380, &p), CSS_DONE); /* it can't know */
+    IS(css_companion_report(&c, 7, 2380, out, sizeof out, &used), CSS_DONE);
+    IS(css_companion_slept(&c), CSS_DONE);
+    IS(css_companion_wall(&c, 2381, &wall), CSS_NO_ANSWER);
+    IS(css_companion_ask(&c, 3000, request), CSS_DONE);
+    second[14] = 0x0b, second[15] = 0xb8; /* 3000 */
+    second[22] = 0x2b, second[23] = 0x5c; /* 11100 */
+    second[30] = 0x2b, second[31] = 0x8e; /* 11150 */
+    IS(css_companion_land(&c, second, 32, 3380), CSS_DONE);
+    IS(css_companion_wall(&c, 3380, &wall), CSS_DONE);
+    IS(wall.lo <= 11330 && 11330 <= wall.hi, 1);
+    css_companion_free(&c);
+}
+
+/* Two answers: what they say together is narrower than each, and when to ask again. */
+static void together(void) {
+    css_companion c = CSS_NONE;
+    uint8_t request[32], second[32];
+    css_span wall, both;
+    css_readings when;
+    uint64_t ask, look, last;
+    const uint64_t greatest = 4294967295999999999u;
+    IS(css_companion_new(&c, TEXT("urn:dvb:css:timeline:pts"), NULL, 0, 0, 0), CSS_DONE);
+    IS(css_companion_next(&c, 1000, 900090, &ask, &look), CSS_DONE);
+    IS(ask, 0);
+    IS(look, greatest);
+    IS(css_companion_control(&c, TEXT(control)), CSS_DONE);
+    IS(css_companion_ask(&c, 1000, request), CSS_DONE);
+    IS(css_companion_next(&c, 1000, 900090, &ask, &look), CSS_DONE);
+    IS(ask, 1000001000); /* a second later, where no answer comes */
+    IS(css_companion_land(&c, answer, 32, 1600), CSS_DONE);
+    IS(css_companion_next(&c, 1000, 900090, &ask, &look), CSS_DONE);
+    IS(ask >= 100001000, 1); /* both clocks are perfect: it stays as narrow */
+    IS(css_companion_until(&c, 1000, &last), CSS_DONE);
+    IS(ask, last > 100001000 ? last : 100001000);
+    IS(css_companion_when(&c, 900090, &when), CSS_DONE);
+    IS(look, when.from);
+    IS(css_companion_next(&c, 0, 899999, &ask, &look), CSS_DONE);
+    IS(ask, 100001000); /* it is wider already */
+    IS(look, greatest); /* it is past */
+    IS(css_companion_ask(&c, 2000, request), CSS_DONE);
+    IS(css_companion_next(&c, 1000, 900090, &ask, &look), CSS_DONE);
+    IS(ask, 1000002000);
+    memcpy(second, answer, 32);
+    second[14] = 0x07, second[15] = 0xd0; /* originate: 2000 */
+    second[22] = 0x17, second[23] = 0xd4; /* receive: 6100 */
+    second[30] = 0x18, second[31] = 0x06; /* transmit: 6150 */
+    IS(css_companion_land(&c, second, 32, 2380), CSS_DONE);
+    IS(css_companion_wall(&c, 2380, &wall), CSS_DONE);
+    IS(css_companion_agreed(&c, 2380, &both), CSS_DONE);
+    IS(wall.lo <= both.lo && both.hi <= wall.hi && both.hi - both.lo < wall.hi - wall.lo, 1);
+    IS(both.lo <= 2380 + 3800 && 2380 + 3800 <= both.hi, 1);
+    IS(css_companion_slept(&c), CSS_DONE);
+    IS(css_companion_next(&c, 1000, 900090, &ask, &look), CSS_DONE);
+    IS(ask, 2380); /* at once: the least reading that may be handed */
+    IS(look, greatest);
     css_companion_free(&c);
 }
 
@@ -318,7 +438,7 @@ static void closed(css_companion *c) {
     css_position position;
     css_readings when;
     css_rate rate;
-    uint64_t last;
+    uint64_t last, look;
     css_companion_free(c);
     css_companion_free(c);
     IS(css_snapshot_position(&copy, 1600, &position), CSS_DONE);
@@ -332,6 +452,9 @@ static void closed(css_companion *c) {
     IS(css_companion_when(c, 1, &when), CSS_CLOSED);
     IS(css_companion_until(c, 1, &last), CSS_CLOSED);
     IS(css_companion_snapshot(c, &copy), CSS_CLOSED);
+    IS(css_companion_agreed(c, 1800, &span), CSS_CLOSED);
+    IS(css_companion_next(c, 1, 1, &last, &look), CSS_CLOSED);
+    IS(css_companion_fault(c, out, sizeof out, &used), CSS_CLOSED);
     IS(css_companion_cii(c, TEXT(cii)), CSS_CLOSED);
     IS(css_companion_cii_state(c, out, sizeof out, &used), CSS_CLOSED);
     IS(css_companion_cii_field(c, CSS_WC_URL, out, sizeof out, &used), CSS_CLOSED);
@@ -342,7 +465,7 @@ static void closed(css_companion *c) {
     IS(css_companion_report(c, 1, 1800, out, sizeof out, &used), CSS_CLOSED);
 }
 
-/* 24 codes have words of their own */
+/* 25 codes have words of their own */
 static void words(void) {
     uint8_t out[64];
     size_t used;
@@ -351,7 +474,7 @@ static void words(void) {
         IS(css_companion_words(code, out, sizeof out, &used), CSS_DONE);
         known += used != 7 || memcmp(out, "no code", 7);
     }
-    IS(known, 24);
+    IS(known, 25);
 }
 
 int main(void) {
@@ -362,6 +485,8 @@ int main(void) {
     miscopied();
     narrow();
     two_answers();
+    set_forward();
+    together();
     five_errors();
     windows();
     limits(&c);

@@ -87,7 +87,8 @@ static uint32_t put(css_companion *c, uint64_t reading, int *bad) {
     b = a;
     uint32_t code;
     css_rate rate;
-    switch (draw() % 6) {
+    switch (draw() % 7) {
+    case 6: code = css_companion_fault(c, out, room, &used); break;
     case 0: code = css_companion_cii_field(c, draw() % 9, out, room, &used); break;
     case 1: code = css_companion_cii_state(c, out, room, &used); break;
     case 2: code = css_companion_setup(c, out, room, &used); break;
@@ -143,6 +144,28 @@ static uint32_t until(css_companion *c, int *bad) {
     return code;
 }
 
+/* what all say together lies in what the narrowest says */
+static uint32_t agreed(css_companion *c, uint64_t reading, int *bad) {
+    css_span wall, both;
+    uint32_t code = css_companion_agreed(c, reading, &both);
+    if (code) return code;
+    *bad |= both.lo > both.hi || css_companion_wall(c, reading, &wall);
+    *bad |= both.lo < wall.lo || wall.hi < both.hi;
+    return code;
+}
+
+/* it looks where `when` says */
+static uint32_t next(css_companion *c, int *bad) {
+    uint64_t width = draw_long() >> (draw() % 64), ask, look;
+    int64_t tick = (int32_t)draw();
+    css_readings readings;
+    uint32_t code = css_companion_next(c, width, tick, &ask, &look);
+    if (code) return code;
+    if (!css_companion_when(c, tick, &readings)) *bad |= look != readings.from;
+    else *bad |= look != 4294967295999999999u;
+    return code;
+}
+
 /* a copy tells the same, and one whose numbers are drawn stays within its memory */
 static uint32_t copied(css_companion *c, uint64_t reading, int *bad) {
     css_snapshot copy, drawn;
@@ -169,7 +192,9 @@ static uint32_t call(css_companion *c, uint64_t reading, uint8_t *request, int *
     uint8_t *text = drawn_text(&len);
     css_span wall;
     uint32_t code = 0, error;
-    switch (draw() % 20) {
+    switch (draw() % 22) {
+    case 20: code = agreed(c, reading, bad); break;
+    case 21: code = next(c, bad); break;
     case 0:
         if (draw() % 50 == 0) css_companion_free(c);
         break;
@@ -217,6 +242,7 @@ int main(int argc, char **argv) {
         int bad = 0;
         now += draw() % 1000000;
         uint32_t code = call(&c, draw() % 20 ? now : draw_long(), request, &bad);
+        if (code == CSS_DISAGREE && draw() % 2) css_companion_slept(&c); /* else nothing is told for long */
         if (bad || code >= 64) return printf("call %ld: %u\n", i, code), 1;
         css_companion_position(&c, now, &p);
         uint64_t seen[] = {code, (uint64_t)p.lo, (uint64_t)p.hi, request[15]};

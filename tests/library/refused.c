@@ -64,7 +64,7 @@ static size_t used;
 static css_span span;
 static css_readings when;
 static css_snapshot copy;
-static uint64_t last;
+static uint64_t last, look;
 
 /* An answer of an error that was declared before, and datagrams that are refused. */
 static int datagrams(css_companion *c) {
@@ -85,6 +85,24 @@ static int datagrams(css_companion *c) {
     return 0;
 }
 
+/* A second declared error, of which an answer is kept beside the first. */
+static int another(css_companion *c) {
+    uint8_t answer[32];
+    css_span both;
+    DO(css_companion_ask(c, 1650, request));
+    memcpy(answer, promise, 32);
+    answer[1] = 1, answer[6] = 1;
+    answer[14] = 1650 >> 8, answer[15] = 1650 & 255;
+    answer[22] = 5400 >> 8, answer[23] = 5400 & 255;
+    answer[30] = 5410 >> 8, answer[31] = 5410 & 255;
+    DO(css_companion_agreed(c, 1650, &both));
+    css_span first = both;
+    TRY(css_companion_land(c, answer, 32, 1690));
+    DO(css_companion_agreed(c, 1690, &both));
+    IS(both.hi - both.lo > first.hi - first.lo, 0);
+    return 0;
+}
+
 /* What is told by numbers: done, and at a wrong reading. */
 static int numbers(css_companion *c, css_position *p) {
     DO(css_companion_wall(c, 1700, &span));
@@ -96,6 +114,8 @@ static int numbers(css_companion *c, css_position *p) {
     IS(css_companion_when(c, 0, &when), CSS_NEVER);
     DO(css_companion_until(c, 1000, &last));
     IS(css_companion_until(c, 0, &last), CSS_NEVER);
+    DO(css_companion_agreed(c, 1700, &span));
+    DO(css_companion_next(c, 1000, 990000, &last, &look));
     DO(css_companion_snapshot(c, &copy));
     DO(css_snapshot_position(&copy, 1700, p));
     IS(css_snapshot_position(&copy, 5, p), CSS_EARLY);
@@ -141,11 +161,13 @@ static int evening(css_companion *c, css_position *p) {
     TRY(css_companion_cii(c, TEXT(cii)));
     TRY(css_companion_cii_state(c, out, sizeof out, &used));
     TRY(css_companion_setup(c, out, sizeof out, &used));
+    TRY(css_companion_control(c, TEXT("{}")));
+    TRY(css_companion_fault(c, out, sizeof out, &used));
     TRY(css_companion_control(c, TEXT(control)));
     TRY(css_companion_report(c, 1, 1600, out, sizeof out, &used));
     TRY(css_companion_presentation(&earliest, &latest, out, sizeof out, &used));
     DO(css_companion_position(c, 1600, p));
-    return 0;
+    return another(c);
 }
 
 int main(void) {

@@ -9,7 +9,9 @@
  * lost, repeated or reordered, while both oscillators keep their declared error and precision, and each accepted
  * response tells truly of an exchange with the television, the interval contains the truth. A snapshot tells the
  * position that its companion would have told when it was taken. Up to the reading that `until` tells, `wall` is no
- * wider than was asked, while the age is the same.
+ * wider than was asked, while the age is the same. What `agreed` tells contains the truth where all accepted responses
+ * tell truly. Where `land` answers CSS_DISAGREE they don't: a television set its clock, an oscillator runs outside its
+ * error, or a response was forged.
  *
  * TRUSTED, since no prover sees your code:
  *   - this header fits the library; pointers point to what their types say, and a pointer with length 0 may be NULL;
@@ -22,8 +24,8 @@
  *   - `error` covers that clock's crystal and the slewing of a time service: 256 for each ppm.
  *
  * There is no global state, no thread, no thread-local and no callback. Memory is taken by new, cii, cii_state, setup,
- * control, presentation and report, and by land for the first response of a declared error and for one that promises
- * a follow-up. All others take none, and never answer CSS_MEMORY.
+ * control, presentation, report and fault, and by land for the first response of a declared error and for one that
+ * promises a follow-up. All others take none, and never answer CSS_MEMORY.
  *
  * It was tried on Linux with glibc: on x86-64 from C11, C++17, Rust and Python, and on ARM of 64 bits from C11. All that
  * it needs of a system is memcpy, memmove, memset, malloc, realloc and free of the C library, and __udivti3 of the
@@ -49,7 +51,7 @@ extern "C" {
  * one. Within a number nothing of this page changes. A higher one has further calls and codes, and leaves all others as
  * they were; a code that you don't know says by its group what to do. Where that can't be so, the shared object has
  * another number in its name. */
-#define CSS_VERSION 1
+#define CSS_VERSION 2
 
 /* A companion, or none. 24 bytes in your memory; what it points to is the library's. */
 typedef struct css_companion {
@@ -75,11 +77,13 @@ enum css_code {
     CSS_NOT_AN_ANSWER = 17, /* a request */
     CSS_UNASKED = 18,       /* it answers none of the last 64 requests since the last sleep */
     CSS_IMPOSSIBLE = 19,    /* it contradicts itself */
-    /* 32 to 47: a CII text was refused. Hang up */
+    /* 32 to 47: a CII text was refused, or responses disagree. Hang up, and begin with a new companion */
     CSS_NOT_JSON = 32,
     CSS_NOT_OBJECT = 33,
     CSS_FIELD = 34, /* a property has another form than it should */
-    CSS_MOVED = 35, /* it moves wcUrl or tsUrl. Begin with a new companion */
+    CSS_MOVED = 35, /* it moves wcUrl or tsUrl */
+    CSS_DISAGREE = 36, /* the responses accepted since the last sleep contradict each other: not all of them are true.
+                        * `slept` forgets them */
     /* 48 to 63: why there is no interval, or no text, now. It may come: go on, and ask again */
     CSS_NO_ANSWER = 48,      /* no response of the wall clock was accepted since the last sleep */
     CSS_NO_TIMESTAMP = 49,   /* no control timestamp came on this TS session */
@@ -168,14 +172,23 @@ uint32_t css_companion_slept(css_companion *c);
 
 /* ---- the wall clock, over UDP to wcUrl. Readings are ns below 2^32 seconds, and never fall. */
 uint32_t css_companion_ask(css_companion *c, uint64_t reading, uint8_t request[32]);
+/* CSS_DISAGREE: the response was accepted, and contradicts others that were since the last sleep. From then on wall,
+ * agreed, position, lead, when, until and snapshot answer CSS_DISAGREE too, until `slept` or a new companion. The age
+ * rises there. Neither css_snapshot_position nor `report` notices it. */
 uint32_t css_companion_land(css_companion *c, const uint8_t *datagram, size_t len, uint64_t reading);
-/* What the television's wall clock shows. */
+/* What the television's wall clock shows, by the narrowest response. */
 uint32_t css_companion_wall(css_companion *c, uint64_t reading, css_span *wall);
+/* What it shows by all responses accepted since the last sleep together: from the greatest lower end of their spans to
+ * the least upper end. It lies in the span of each of them. */
+uint32_t css_companion_agreed(css_companion *c, uint64_t reading, css_span *wall);
 
 /* ---- the CII session. Texts of at most 262,144 bytes. */
 uint32_t css_companion_cii(css_companion *c, const uint8_t *text, size_t len);
 uint32_t css_companion_cii_field(css_companion *c, uint32_t property, uint8_t *out, size_t room, size_t *used);
 uint32_t css_companion_cii_state(css_companion *c, uint8_t *out, size_t room, size_t *used);
+/* What was refused, for a person. Where the last CII text was CSS_FIELD or CSS_MOVED: its property, as "wcUrl". Else,
+ * while position answers CSS_UNREADABLE: why, as "Field contentTime" or "NotJson". CSS_NULL where there is neither. */
+uint32_t css_companion_fault(css_companion *c, uint8_t *out, size_t room, size_t *used);
 /* A timeline that the television lists, by its number from 0: its selector and its tick rate. CSS_NULL behind the last
  * one, and where none are listed. */
 uint32_t css_companion_timeline(css_companion *c, size_t number, css_rate *rate,
@@ -211,14 +224,21 @@ uint32_t css_companion_when(css_companion *c, int64_t tick, css_readings *readin
  * the television again by then. A nanosecond later each kept response alone is wider than `width` - 1 ns, before its
  * ends are rounded. CSS_NEVER: it is so wide already. It takes some microseconds. */
 uint32_t css_companion_until(css_companion *c, uint64_t width, uint64_t *reading);
+/* When to do something next. *ask: the reading from which a request is due. That is at once where none was sent since
+ * the start or the last sleep; a second after the last one where no response to it was accepted; and else the last
+ * reading up to which `wall` is at most `width` ns wide, or 100 ms after the last request where that is later. *look:
+ * the reading from which `tick` may be shown, as `when` tells it. Where that isn't known, or it isn't shown, it is the
+ * greatest reading. So sleep until the lesser of the two, or until something comes. CSS_DISAGREE as `wall`. */
+uint32_t css_companion_next(css_companion *c, uint64_t width, int64_t tick, uint64_t *ask, uint64_t *look);
 /* A copy of what positions go by, for a thread that can't wait. Take a new one when the age rises. CSS_TOO_WIDE while
  * more than CSS_ANSWERS responses are kept, one for each error that the television declared. */
 uint32_t css_companion_snapshot(css_companion *c, css_snapshot *snapshot);
-/* What css_companion_position tells of the companion as it was. It goes by the numbers alone, so any thread may call it
+/* What css_companion_position tells of the companion as it was. It can't know of responses that came since, nor that
+ * they disagree: the age rises then, so drop the snapshot. It goes by the numbers alone, so any thread may call it
  * at any time, also once the companion is freed. Of numbers that css_companion_snapshot didn't fill it answers
  * CSS_RANGE, CSS_EARLY, CSS_NO_ANSWER or CSS_TOO_WIDE, or 0 and the position that they show. */
 uint32_t css_snapshot_position(const css_snapshot *snapshot, uint64_t reading, css_position *position);
-/* The line of a report, as `css companion` prints it. */
+/* The line of a report, as `css companion` prints it. It goes by the narrowest response, also where they disagree. */
 uint32_t css_companion_report(css_companion *c, uint64_t number, uint64_t reading,
                               uint8_t *out, size_t room, size_t *used);
 

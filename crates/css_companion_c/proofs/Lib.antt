@@ -1,6 +1,7 @@
 pub mod Pairs
 pub mod Heap
 pub mod Behind
+pub mod Noticing
 pub mod Reached
 pub mod Shown
 pub mod Leading

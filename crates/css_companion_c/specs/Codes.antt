@@ -13,6 +13,7 @@ use Rattle.css_client.specs.declared.landing.Landing.TheVariants as landings
 use Rattle.css_cii.specs.declared.fault.CiiFault.TheVariants as reasons
 use Rattle.css_companion.specs.Standing.{Companion, timing_now}
 use Rattle.css_companion.specs.declared.knowledge.Timing.{Timing}
+use Rattle.css_companion_c.specs.declared.follower.Follower.{Follower}
 use Rattle.css_companion_c.specs.declared.presentations.PresentationBound.{PresentationBound}
 use Rattle.css_companion.specs.declared.fault.CompanionFault.{CompanionFault}
 use Rattle.css_companion.specs.declared.fault.CompanionFault.TheVariants as fault
@@ -24,6 +25,7 @@ pub use Rattle.css_companion_c.specs.declared.codes.TheConstants.{VERSION, DONE,
 pub use Rattle.css_companion_c.specs.declared.codes.TheConstants.{TOO_WIDE}
 pub use Rattle.css_companion_c.specs.declared.codes.TheConstants.{NOT_UTF8, UNDECODABLE, NOT_AN_ANSWER, UNASKED}
 pub use Rattle.css_companion_c.specs.declared.codes.TheConstants.{IMPOSSIBLE, NOT_JSON, NOT_OBJECT, FIELD, MOVED}
+pub use Rattle.css_companion_c.specs.declared.codes.TheConstants.{DISAGREE}
 pub use Rattle.css_companion_c.specs.declared.codes.TheConstants.{NO_ANSWER, NO_TIMESTAMP, SESSION_CLOSED, UNREADABLE}
 pub use Rattle.css_companion_c.specs.declared.codes.TheConstants.{UNAVAILABLE, NO_RATE, IS_NULL, NEVER, LONGEST_TEXT}
 
@@ -46,9 +48,18 @@ aged age code = if goes_on code then min (age + 1) 18446744073709551615 else age
 
 -- ---- tests before a call
 -- the code where there is a companion
-abbrev pub if_open : Option Companion → (Companion → ℕ) → ℕ
+abbrev pub if_open : Option Follower → (Companion → ℕ) → ℕ
 if_open None code = CLOSED
-if_open (Some companion) code = code companion
+if_open (Some follower) code = code follower.companion
+
+-- the code where its answers haven't disagreed
+abbrev pub if_agreeing : Follower → ℕ → ℕ
+if_agreeing follower code = if follower.disagrees then DISAGREE else code
+
+-- the code where there is a companion whose answers haven't disagreed
+abbrev pub unless_noticed : Option Follower → (Companion → ℕ) → ℕ
+unless_noticed None code = CLOSED
+unless_noticed (Some follower) code = if_agreeing follower (code follower.companion)
 
 -- the code at a reading that is in range and not early
 abbrev pub at_reading : Companion → ℕ → ℕ → ℕ
@@ -56,15 +67,24 @@ at_reading companion reading code =
     if nat_le LIMIT reading then RANGE else if nat_lt reading companion.client.floor then EARLY else code
 
 -- the code after the tests of the handle and of a reading
-abbrev pub tested : Option Companion → ℕ → ℕ → ℕ
+abbrev pub tested : Option Follower → ℕ → ℕ → ℕ
 tested kept reading code = if_open kept (λ companion. at_reading companion reading code)
+
+-- the code after the tests of a reading and of the answers
+abbrev pub noticed_at : Follower → ℕ → ℕ
+noticed_at follower reading = at_reading follower.companion reading (if_agreeing follower DONE)
+
+-- the code after the tests of the handle, of a reading and of the answers
+abbrev pub noticed : Option Follower → ℕ → ℕ
+noticed None reading = CLOSED
+noticed (Some follower) reading = noticed_at follower reading
 
 -- the code where a text isn't too long
 abbrev pub if_short : List ℕ → ℕ → ℕ
 if_short text code = if nat_lt LONGEST_TEXT (length text) then RANGE else code
 
 -- the code after the tests of the handle and of a text's length
-abbrev pub heard : Option Companion → List ℕ → ℕ → ℕ
+abbrev pub heard : Option Follower → List ℕ → ℕ → ℕ
 heard kept text code = if_open kept (λ companion. if_short text code)
 
 -- The tests before the call decide, if they refuse it. Else the answer is this one, or there was want of memory.

@@ -1,6 +1,7 @@
 pub mod Handles
 pub mod Holding
 pub mod Codes
+pub mod Noticing
 pub mod Promises
 pub mod Texts
 pub mod Words

@@ -1,6 +1,7 @@
 -- Up to which reading the television's wall clock is known narrowly enough.
-use Rattle.std.specs.Prelude.{ℕ, ◌+◌, ◌-◌, ◌*◌, ℤ, pos, int_lt, ◌-ℤ◌, ◌*ℤ◌, ◌≤ℤ◌, ◌<ℤ◌, ◌≤◌, ◌<◌, ◌==◌}
-use Rattle.std.specs.Prelude.{List, length, All, Bool, not, if◌then◌else◌, Option, Some, None}
+use Rattle.std.specs.Prelude.{ℕ, ◌≡◌, ◌+◌, ◌-◌, ◌*◌, ℤ, pos, int_lt, ◌-ℤ◌, ◌*ℤ◌, ◌≤ℤ◌, ◌<ℤ◌, ◌≤◌, ◌<◌, ◌==◌}
+use Rattle.std.specs.Prelude.{List, length, All, Bool, true, false, not, if◌then◌else◌}
+use Rattle.std.specs.Prelude.{Option, Some, None, min, max, unwrap_or}
 use Rattle.std.specs.List.{list_any}
 use Rattle.css_num.specs.Spans.{Interval}
 use Rattle.css_model.specs.declared.TheConstants.{F, LIMIT}
@@ -11,7 +12,9 @@ use Rattle.css_companion.specs.Standing.{Companion, StandsFor, own_of}
 use Rattle.css_companion_c.specs.Codes.{DONE, NO_ANSWER}
 use Rattle.css_companion_c.specs.Handles.{AnswerAlike}
 use Rattle.css_companion_c.specs.Promises.{IsTheWall}
+use Rattle.css_companion_c.specs.declared.follower.Follower.{Follower}
 use Rattle.css_companion_c.specs.declared.reading.Ends.{Ends}
+pub use Rattle.css_companion_c.specs.declared.until.TheConstants.{WAIT, SOONEST}
 
 -- ---- what is told
 -- whether an answer is kept
@@ -48,6 +51,26 @@ abbrev pub BoundsTheWall : Type 0
 BoundsTheWall = (width last reading : ℕ) (span : Ends) (old new : Companion) (before after : History)
     → IsNarrowUntil width last old → old.client.floor ≤ reading → reading ≤ last → AnswerAlike old new
     → StandsFor old before → StandsFor new after → IsTheWall reading span new → (span.hi -ℤ span.lo) ≤ℤ pos width
+
+-- the last reading up to which the span is at most so wide, or none, where it is wider already
+abbrev pub IsLastNarrow : ℕ → Option ℕ → Companion → Type 0
+IsLastNarrow width (Some last) companion = IsNarrowUntil width last companion × IsWideAt width (last + 1) companion
+IsLastNarrow width None companion = IsWideAt width companion.client.floor companion
+
+-- a reading so long after another, up to the greatest number of 64 bits
+abbrev pub later : ℕ → ℕ → ℕ
+later reading wait = min (reading + wait) 18446744073709551615
+
+-- From which reading a request is due: at once where none was sent since the last sleep; a second after the last one
+-- where no answer to it was accepted; else where the span becomes wider, and no sooner than 100 ms after the last one.
+abbrev pub IsDueBy : ℕ → ℕ → Companion → Option ℕ → Bool → Type 0
+IsDueBy width due companion None answered = due ≡ companion.client.floor
+IsDueBy width due companion (Some asked) false = due ≡ later asked WAIT
+IsDueBy width due companion (Some asked) true =
+    (last : Option ℕ) × IsLastNarrow width last companion × (due ≡ max (later asked SOONEST) (unwrap_or last 0))
+
+abbrev pub IsDue : ℕ → ℕ → Follower → Type 0
+IsDue width due follower = IsDueBy width due follower.companion follower.asked follower.answered
 
 -- ---- for private clauses
 -- whether one of the answers has at most this scaled width at a reading

@@ -3,7 +3,7 @@ ghost use Rattle.std.specs.Prelude.{◌≡◌};
 ghost use Rattle.css_companion_c.specs.Codes.{aged};
 
 /// The version of this interface. It rises whenever a call, a code or a struct of C changes its meaning.
-pub const VERSION: u32 = 1;
+pub const VERSION: u32 = 2;
 
 /// It is done.
 pub const DONE: u32 = 0;
@@ -45,7 +45,7 @@ pub const UNASKED: u32 = 18;
 /// It contradicts itself.
 pub const IMPOSSIBLE: u32 = 19;
 
-// ---- 32 to 47: a text was refused, and the history goes on
+// ---- 32 to 47: a text was refused, or an answer noticed, and the history goes on
 
 /// The text is no JSON.
 pub const NOT_JSON: u32 = 32;
@@ -58,6 +58,9 @@ pub const FIELD: u32 = 34;
 
 /// The text moves an address.
 pub const MOVED: u32 = 35;
+
+/// Answers contradict each other. Of the group since it asks for the same: a new companion.
+pub const DISAGREE: u32 = 36;
 
 // ---- 48 to 63: why there is no interval, or no text
 

@@ -2,13 +2,15 @@
 ghost use Rattle.std.specs.Prelude.{◌≡◌, ◌≢◌, ℕ, IfSome, length};
 ghost use Rattle.css_cii.specs.States.{full_change};
 ghost use Rattle.css_cii.specs.Texts.{change_text};
-ghost use Rattle.css_companion_c.specs.Codes.{field_code, room_code, Answers, DONE, NO_ROOM};
+ghost use Rattle.css_companion_c.specs.Codes.{field_code, room_code, value_code, Answers, DONE, NO_ROOM};
+ghost use Rattle.css_companion_c.specs.Noticing.{words_of};
 ghost use Rattle.css_companion_c.specs.Texts.{Holds, property_of};
 
 use crate::codes;
+use crate::follower::Follower;
 use crate::texts::put;
 use css_cii::{State, full, write_message};
-use css_companion::Companion;
+use css_companion::{Cause, Companion, fault_text};
 use css_num::Text;
 use std::alloc::Global;
 
@@ -43,6 +45,26 @@ pub(crate) fn field(companion: &Companion, number: u32, out: &mut [u8], used: &m
     match property(companion.state(), number) {
         None => codes::IS_NULL,
         Some(text) => put(text.bytes(), out, used),
+    }
+}
+
+/// Puts the words for what was refused last into a buffer.
+pub(crate) fn fault(alloc: Global, follower: &Follower, out: &mut [u8], used: &mut usize) -> u32
+    ensures kept { result ≢ DONE → out.new ≡ out.old }
+    ensures code { Answers DONE (value_code (words_of follower.now) (length out.old)) result }
+    ensures text { result ≡ DONE → IfSome (words_of follower.now)
+        (λ words. Holds words used.new out.old out.new) }
+    ensures needs { result ≡ NO_ROOM → IfSome (words_of follower.now) (λ words. used.new ≡ length words) }
+{
+    if let Some(name) = follower.fault {
+        return put(name.as_str().as_bytes(), out, used);
+    }
+    let Err(Cause::Unreadable(fault)) = follower.companion.timing() else {
+        return codes::IS_NULL;
+    };
+    match fault_text(alloc, fault) {
+        Ok(text) => put(text.bytes(), out, used),
+        Err(_) => codes::MEMORY,
     }
 }
 

@@ -6,13 +6,14 @@ ghost use Rattle.css_num.specs.Division as division;
 ghost use Rattle.css_span.specs.WallSpans.{wall_span, IsNear};
 ghost use Rattle.css_companion.specs.Meanings.{timing_after};
 ghost use Rattle.css_companion.specs.Standing.{StandsFor, own_of};
-ghost use Rattle.css_companion_c.specs.Codes.{at_reading, DONE};
+ghost use Rattle.css_companion_c.specs.Codes.{noticed_at, DONE};
 ghost use Rattle.css_companion_c.specs.Leads as leads;
 ghost use Rattle.css_companion_c.specs.Leads.{lead_code, HoldsTheLead, IsTheLead};
 
 use crate::codes;
-use crate::reading::{Ends, cause_code, early, ends_of};
-use css_companion::{Companion, Timing};
+use crate::follower::Follower;
+use crate::reading::{Ends, cause_code, ends_of, noticed};
+use css_companion::Timing;
 use css_num::{Rate, Span, ceil_div, floor_div};
 
 /// The ticks from one to another.
@@ -157,25 +158,25 @@ fn lead_at(timing: &Timing, tick: i64, span: &Span) -> Span
 }
 
 /// The interval of nanoseconds by which somebody at this tick is ahead.
-pub(crate) fn lead(companion: &Companion, reading: u64, tick: i64, out: &mut Ends) -> u32
+pub(crate) fn lead(follower: &Follower, reading: u64, tick: i64, out: &mut Ends) -> u32
     ensures kept { result ≢ DONE → out.new ≡ out.old }
-    ensures before { at_reading companion.now reading DONE ≢ DONE
-        → result ≡ at_reading companion.now reading DONE }
-    ensures code { at_reading companion.now reading DONE ≡ DONE → (history : History)
-        → StandsFor companion.now history → result ≡ lead_code
-        (wall_span (own_of companion.now) reading (accepted_answers (own_of companion.now) history))
-        (timing_after companion.now.setup.selector history) tick }
-    ensures lead { result ≡ DONE → IsTheLead reading tick out.new companion.now }
-    ensures truth { result ≡ DONE → HoldsTheLead reading tick out.new companion.now }
+    ensures before { noticed_at follower.now reading ≢ DONE
+        → result ≡ noticed_at follower.now reading }
+    ensures code { noticed_at follower.now reading ≡ DONE → (history : History)
+        → StandsFor follower.now.companion history → result ≡ lead_code
+        (wall_span (own_of follower.now.companion) reading (accepted_answers (own_of follower.now.companion) history))
+        (timing_after follower.now.companion.setup.selector history) tick }
+    ensures lead { result ≡ DONE → IsTheLead reading tick out.new follower.now.companion }
+    ensures truth { result ≡ DONE → HoldsTheLead reading tick out.new follower.now.companion }
 {
-    let code = early(companion, reading);
+    let code = noticed(follower, reading);
     if code != codes::DONE {
         return code;
     }
-    let Some(span) = companion.wall(reading) else {
+    let Some(span) = follower.companion.wall(reading) else {
         return codes::NO_ANSWER;
     };
-    match companion.timing() {
+    match follower.companion.timing() {
         Err(cause) => cause_code(cause),
         Ok(timing) => match ends_of(&lead_at(&timing, tick, &span)) {
             None => codes::TOO_WIDE,

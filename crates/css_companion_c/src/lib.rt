@@ -2,33 +2,38 @@
 //! and answers a code.
 #![tactic(auto)]
 
-ghost use Rattle.std.specs.Prelude.{◌≡◌, ◌≢◌, ◌+◌, ℕ, None, IsSome, ◌∷◌, length};
+ghost use Rattle.std.specs.Prelude.{◌≡◌, ◌≢◌, ◌+◌, ℕ, None, IsSome, [], ◌∷◌, length};
 ghost use Rattle.css_model.specs.declared.Why.TheVariants as why;
 ghost use Rattle.css_model.specs.History.{History, Clock, Sent, Took, Slept, accepted_answers};
 ghost use Rattle.css_model.specs.Wire.{encoded, request_at};
 ghost use Rattle.css_span.specs.WallSpans.{wall_span};
-ghost use Rattle.css_client.specs.Landings.{landing_of};
 ghost use Rattle.css_companion.specs.Meanings.{report_after, timing_after};
 ghost use Rattle.css_companion.specs.Standing.{Companion, StandsFor, own_of, asleep};
 ghost use Rattle.css_companion.specs.Printed.{line_of};
 ghost use Rattle.css_companion_c.specs.Codes as answers;
-ghost use Rattle.css_companion_c.specs.Codes.{DONE, CLOSED, NO_ROOM, ChangesNothing, GoesOn, Answers, aged};
-ghost use Rattle.css_companion_c.specs.Handles.{behind, Of, Between, AnswerAlike, KeepsTheRest};
+ghost use Rattle.css_companion_c.specs.Codes.{DONE, CLOSED, NO_ROOM, DISAGREE, ChangesNothing, GoesOn, Answers, aged};
+ghost use Rattle.css_companion_c.specs.Handles.{behind, Has, Of, Becomes, Between};
+ghost use Rattle.css_companion_c.specs.Handles.{AnswerAlike, KeepsTheRest};
 ghost use Rattle.css_companion_c.specs.Leads.{lead_code, HoldsTheLead, IsTheLead};
+ghost use Rattle.css_companion_c.specs.Noticing.{Agrees, Asks, BeginsAnew, Notices, AreNotAllTrue};
+ghost use Rattle.css_companion_c.specs.Noticing.{accepted, noticed_code};
+ghost use Rattle.css_companion_c.specs.Noticing.{IsAgreedCode, IsTheirs, IsTrueOfAll};
 ghost use Rattle.css_companion_c.specs.Promises.{Adds, IsFresh, HoldsTheWall, HoldsThePosition, GoesWith, IsTheWall};
 ghost use Rattle.css_companion_c.specs.Snapshots.{IsSnapshotOf, IsCodeOf, HasRanges, at_floor, copied};
 ghost use Rattle.css_companion_c.specs.Texts.{Holds};
-ghost use Rattle.css_companion_c.specs.Until.{any_kept, IsNarrowUntil, IsWideAt};
-ghost use Rattle.css_companion_c.specs.When.{IsShownWithin, IsNeverShown, IsLeast};
+ghost use Rattle.css_companion_c.specs.Until.{any_kept, IsNarrowUntil, IsWideAt, IsDue};
+ghost use Rattle.css_companion_c.specs.When.{IsShownWithin, IsNeverShown, IsLeast, LooksAt};
 
 mod codes;
 mod content;
 mod exchange;
+mod follower;
 mod handle;
 mod held;
 pub mod laws;
 mod lead;
 mod making;
+mod next;
 mod parts;
 pub mod plain;
 mod presentations;
@@ -43,6 +48,7 @@ mod until;
 mod when;
 mod words;
 
+use follower::Follower;
 use handle::Handle;
 use reading::{Ends, Position};
 use snapshot::Snapshot;
@@ -65,9 +71,10 @@ pub extern "C" fn css_companion_new(
     ensures same { result ≢ DONE → handle.new ≡ handle.old }
     ensures age { result ≡ DONE → handle.new.age ≡ aged handle.old.age result }
     ensures fresh { result ≡ DONE → Of (behind handle.new) (IsFresh selector.now stem.now error precision) }
+    ensures anew { result ≡ DONE → Has (behind handle.new) (λ new. BeginsAnew new []) }
 {
     match making::made(alloc, selector, stem, error, precision) {
-        Ok(companion) => match Box::new(alloc, companion) {
+        Ok(companion) => match Box::new(alloc, Follower::new(alloc, companion)) {
             Ok(boxed) => {
                 drop(handle.take(alloc));
                 handle.put(boxed, codes::DONE);
@@ -106,12 +113,14 @@ pub extern "C" fn css_companion_slept(alloc: Global, handle: &mut Handle) -> u32
         new ≡ record old { client = asleep old.client }) }
     ensures stands { result ≡ DONE → Between (behind handle.old) (behind handle.new)
         (Adds (λ _. Unit {0}) (λ history. Slept ∷ history)) }
+    ensures anew { result ≡ DONE → Becomes (behind handle.old) (behind handle.new) (λ old new. (history : History)
+        → Agrees old history → BeginsAnew new (Slept ∷ history)) }
 {
     match handle.take(alloc) {
         Some(boxed) => {
-            let mut companion = boxed;
-            companion.slept();
-            handle.put(companion, codes::DONE);
+            let mut follower = boxed;
+            follower.slept();
+            handle.put(follower, codes::DONE);
             codes::DONE
         }
         None => codes::CLOSED,
@@ -132,22 +141,24 @@ pub extern "C" fn css_companion_ask(
     ensures age { handle.new.age ≡ handle.old.age }
     ensures keeps { result ≡ DONE → Between (behind handle.old) (behind handle.new) KeepsTheRest }
     ensures alike { result ≡ DONE → Between (behind handle.old) (behind handle.new) AnswerAlike }
+    ensures asks { result ≡ DONE → Becomes (behind handle.old) (behind handle.new) (Asks reading) }
     ensures request { result ≡ DONE → request.new ≡ encoded (request_at reading) }
     ensures stands { result ≡ DONE → Between (behind handle.old) (behind handle.new) (λ old new. (peer : ℕ)
         → Adds (λ _. Unit {0}) (λ history. Sent peer request.new ∷ Clock why.Ask reading ∷ history) old new) }
 {
     match handle.take(alloc) {
         Some(boxed) => {
-            let mut companion = boxed;
-            let code = exchange::ask(&mut companion, reading, request);
-            handle.put_back(companion);
+            let mut follower = boxed;
+            let code = exchange::ask(&mut follower, reading, request);
+            handle.put_back(follower);
             code
         }
         None => codes::CLOSED,
     }
 }
 
-/// Takes in a datagram that landed at this reading of the own clock.
+/// Takes in a datagram that landed at this reading of the own clock. DISAGREE where an answer that is accepted
+/// contradicts those accepted before it since the last sleep.
 #[unsafe(no_mangle)]
 pub extern "C" fn css_companion_land(
     alloc: Global,
@@ -156,20 +167,26 @@ pub extern "C" fn css_companion_land(
     reading: u64,
 ) -> u32
     ensures closed { behind handle.old ≡ None → result ≡ CLOSED }
-    ensures code { IsSome (behind handle.old) → Of (behind handle.old) (λ old. (history : History)
-        → StandsFor old history → Answers (answers.at_reading old reading DONE)
-        (answers.landing_code (landing_of (own_of old) history reading bytes.now)) result) }
+    ensures code { IsSome (behind handle.old) → Has (behind handle.old) (λ old. (history : History)
+        → StandsFor old.companion history → Agrees old history → Answers (answers.at_reading old.companion reading DONE)
+        (noticed_code old.companion history reading bytes.now) result) }
     ensures same { ChangesNothing result → behind handle.new ≡ behind handle.old }
     ensures age { handle.new.age ≡ aged handle.old.age result }
     ensures keeps { GoesOn result → Between (behind handle.old) (behind handle.new) KeepsTheRest }
     ensures stands { GoesOn result → Between (behind handle.old) (behind handle.new) (λ old new. (peer : ℕ)
         → Adds (λ _. Unit {0}) (λ history. Clock why.Land reading ∷ Took peer bytes.now ∷ history) old new) }
+    ensures notices { GoesOn result → Becomes (behind handle.old) (behind handle.new) (λ old new. (history : History)
+        (peer : ℕ) → StandsFor old.companion history → Agrees old history
+        → Notices peer reading bytes.now old new history) }
+    ensures untrue { result ≡ DISAGREE → Has (behind handle.old) (λ old. (history : History) (peer : ℕ)
+        → StandsFor old.companion history → Agrees old history → AreNotAllTrue (own_of old.companion) reading
+        (accepted old.companion (Clock why.Land reading ∷ Took peer bytes.now ∷ history))) }
 {
     match handle.take(alloc) {
         Some(boxed) => {
-            let mut companion = boxed;
-            let code = exchange::land(&mut companion, bytes, reading);
-            handle.put(companion, code);
+            let mut follower = boxed;
+            let code = exchange::land(&mut follower, bytes, reading);
+            handle.put(follower, code);
             code
         }
         None => codes::CLOSED,
@@ -185,9 +202,9 @@ pub extern "C" fn css_companion_wall(
     span: &mut Ends,
 ) -> u32
     ensures kept { result ≢ DONE → span.new ≡ span.old }
-    ensures before { answers.tested (behind handle.old) reading DONE ≢ DONE
-        → result ≡ answers.tested (behind handle.old) reading DONE }
-    ensures code { answers.tested (behind handle.old) reading DONE ≡ DONE → Of (behind handle.old) (λ companion.
+    ensures before { answers.noticed (behind handle.old) reading ≢ DONE
+        → result ≡ answers.noticed (behind handle.old) reading }
+    ensures code { answers.noticed (behind handle.old) reading ≡ DONE → Of (behind handle.old) (λ companion.
         (history : History) → StandsFor companion history → result ≡ answers.span_code
         (wall_span (own_of companion) reading (accepted_answers (own_of companion) history))) }
     ensures same { behind handle.new ≡ behind handle.old }
@@ -205,6 +222,35 @@ pub extern "C" fn css_companion_wall(
     }
 }
 
+/// The span of the television's wall clock that all answers accepted since the last sleep allow together, at this
+/// reading of the own clock.
+#[unsafe(no_mangle)]
+pub extern "C" fn css_companion_agreed(
+    alloc: Global,
+    handle: &mut Handle,
+    reading: u64,
+    span: &mut Ends,
+) -> u32
+    ensures kept { result ≢ DONE → span.new ≡ span.old }
+    ensures before { answers.noticed (behind handle.old) reading ≢ DONE
+        → result ≡ answers.noticed (behind handle.old) reading }
+    ensures code { answers.noticed (behind handle.old) reading ≡ DONE
+        → Has (behind handle.old) (IsAgreedCode reading result) }
+    ensures same { behind handle.new ≡ behind handle.old }
+    ensures age { handle.new.age ≡ handle.old.age }
+    ensures shared { result ≡ DONE → Has (behind handle.old) (IsTheirs reading span.new) }
+    ensures truth { result ≡ DONE → Has (behind handle.old) (IsTrueOfAll reading span.new) }
+{
+    match handle.take(alloc) {
+        Some(boxed) => {
+            let code = reading::agreed(&boxed, reading, span);
+            handle.put_back(boxed);
+            code
+        }
+        None => codes::CLOSED,
+    }
+}
+
 /// The ticks that the television may be presenting at this reading of the own clock, and what they go by.
 #[unsafe(no_mangle)]
 pub extern "C" fn css_companion_position(
@@ -214,9 +260,9 @@ pub extern "C" fn css_companion_position(
     position: &mut Position,
 ) -> u32
     ensures kept { result ≢ DONE → position.new ≡ position.old }
-    ensures before { answers.tested (behind handle.old) reading DONE ≢ DONE
-        → result ≡ answers.tested (behind handle.old) reading DONE }
-    ensures code { answers.tested (behind handle.old) reading DONE ≡ DONE → Of (behind handle.old) (λ companion.
+    ensures before { answers.noticed (behind handle.old) reading ≢ DONE
+        → result ≡ answers.noticed (behind handle.old) reading }
+    ensures code { answers.noticed (behind handle.old) reading ≡ DONE → Of (behind handle.old) (λ companion.
         (history : History) → StandsFor companion history → result ≡ answers.report_code
         (report_after (own_of companion) companion.setup.selector history reading)) }
     ensures same { behind handle.new ≡ behind handle.old }
@@ -245,9 +291,9 @@ pub extern "C" fn css_companion_lead(
     lead: &mut Ends,
 ) -> u32
     ensures kept { result ≢ DONE → lead.new ≡ lead.old }
-    ensures before { answers.tested (behind handle.old) reading DONE ≢ DONE
-        → result ≡ answers.tested (behind handle.old) reading DONE }
-    ensures code { answers.tested (behind handle.old) reading DONE ≡ DONE → Of (behind handle.old) (λ companion.
+    ensures before { answers.noticed (behind handle.old) reading ≢ DONE
+        → result ≡ answers.noticed (behind handle.old) reading }
+    ensures code { answers.noticed (behind handle.old) reading ≡ DONE → Of (behind handle.old) (λ companion.
         (history : History) → StandsFor companion history → result ≡ lead_code
         (wall_span (own_of companion) reading (accepted_answers (own_of companion) history))
         (timing_after companion.setup.selector history) tick) }
@@ -275,7 +321,7 @@ pub extern "C" fn css_companion_when(
     readings: &mut Readings,
 ) -> u32
     ensures kept { result ≢ DONE → readings.new ≡ readings.old }
-    ensures code { answers.Searches (answers.if_open (behind handle.old) answers.searched) result }
+    ensures code { answers.Searches (answers.unless_noticed (behind handle.old) answers.searched) result }
     ensures same { behind handle.new ≡ behind handle.old }
     ensures age { handle.new.age ≡ handle.old.age }
     ensures truth { result ≡ DONE → Of (behind handle.old) (IsShownWithin tick readings.new.from readings.new.to) }
@@ -319,7 +365,7 @@ pub extern "C" fn css_companion_report(
 {
     match handle.take(alloc) {
         Some(boxed) => {
-            let code = reading::report(alloc, &boxed, number, reading, out, used);
+            let code = reading::report(alloc, &boxed.companion, number, reading, out, used);
             handle.put_back(boxed);
             code
         }
@@ -336,7 +382,7 @@ pub extern "C" fn css_companion_until(
     reading: &mut u64,
 ) -> u32
     ensures kept { result ≢ DONE → reading.new ≡ reading.old }
-    ensures code { answers.Searches (answers.if_open (behind handle.old) any_kept) result }
+    ensures code { answers.Searches (answers.unless_noticed (behind handle.old) any_kept) result }
     ensures same { behind handle.new ≡ behind handle.old }
     ensures age { handle.new.age ≡ handle.old.age }
     ensures truth { result ≡ DONE → Of (behind handle.old) (IsNarrowUntil width reading.new) }
@@ -354,6 +400,34 @@ pub extern "C" fn css_companion_until(
     }
 }
 
+/// From which reading a request is due, where the span of the wall clock is to be at most so wide, and from which the
+/// tick may be shown.
+#[unsafe(no_mangle)]
+pub extern "C" fn css_companion_next(
+    alloc: Global,
+    handle: &mut Handle,
+    width: u64,
+    tick: i64,
+    ask: &mut u64,
+    look: &mut u64,
+) -> u32
+    ensures kept { result ≢ DONE → (ask.new ≡ ask.old) × (look.new ≡ look.old) }
+    ensures code { result ≡ answers.unless_noticed (behind handle.old) (λ _. DONE) }
+    ensures same { behind handle.new ≡ behind handle.old }
+    ensures age { handle.new.age ≡ handle.old.age }
+    ensures ask { result ≡ DONE → Has (behind handle.old) (IsDue width ask.new) }
+    ensures look { result ≡ DONE → Of (behind handle.old) (LooksAt tick look.new) }
+{
+    match handle.take(alloc) {
+        Some(boxed) => {
+            let code = next::next(&boxed, width, tick, ask, look);
+            handle.put_back(boxed);
+            code
+        }
+        None => codes::CLOSED,
+    }
+}
+
 /// Copies what positions go by, in plain numbers. [`css_snapshot_position`] tells them without the companion.
 #[unsafe(no_mangle)]
 pub extern "C" fn css_companion_snapshot(
@@ -362,7 +436,7 @@ pub extern "C" fn css_companion_snapshot(
     snapshot: &mut Snapshot,
 ) -> u32
     ensures kept { result ≢ DONE → snapshot.new ≡ snapshot.old }
-    ensures code { result ≡ answers.if_open (behind handle.old) copied }
+    ensures code { result ≡ answers.unless_noticed (behind handle.old) copied }
     ensures same { behind handle.new ≡ behind handle.old }
     ensures age { handle.new.age ≡ handle.old.age }
     ensures truth { result ≡ DONE → Of (behind handle.old) (IsSnapshotOf snapshot.new) }

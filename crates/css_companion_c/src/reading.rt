@@ -7,13 +7,17 @@ ghost use Rattle.css_companion.specs.Printed.{line_of};
 ghost use Rattle.css_companion.specs.Meanings.{report_after};
 ghost use Rattle.css_companion.specs.Standing.{StandsFor, own_of};
 ghost use Rattle.css_companion.specs.declared.report.Report.TheVariants as reports;
-ghost use Rattle.css_companion_c.specs.Codes.{at_reading, span_code, report_code, cause_code, room_code, Answers};
+ghost use Rattle.css_companion_c.specs.Codes.{at_reading, noticed_at, span_code, report_code, cause_code};
+ghost use Rattle.css_companion_c.specs.Codes.{room_code, Answers};
 ghost use Rattle.css_companion_c.specs.Codes.{is_narrow, DONE, NO_ROOM};
+ghost use Rattle.css_companion_c.specs.Noticing.{IsAgreedCode, IsTheirs, IsTrueOfAll};
 ghost use Rattle.css_companion_c.specs.Texts.{Holds};
 ghost use Rattle.css_companion_c.specs.Promises.{HoldsTheWall, HoldsThePosition, GoesWith, IsTheWall};
 
 use crate::codes;
+use crate::follower::Follower;
 use crate::texts::put;
+use css_agree::Agreed;
 use css_companion::{Cause, Companion, Report, Timing, line};
 use css_model::LIMIT;
 use css_num::Span;
@@ -54,6 +58,20 @@ pub(crate) fn early(companion: &Companion, reading: u64) -> u32
     codes::DONE
 }
 
+/// RANGE, EARLY or DISAGREE, or DONE where the companion can be asked at this reading.
+pub(crate) fn noticed(follower: &Follower, reading: u64) -> u32
+    ensures { result ≡ noticed_at follower.now reading }
+{
+    let code = early(&follower.companion, reading);
+    if code != codes::DONE {
+        return code;
+    }
+    if follower.disagrees {
+        return codes::DISAGREE;
+    }
+    codes::DONE
+}
+
 /// Whether a number fits 64 bits.
 fn is_narrow(number: i128) -> bool
     ensures { result ≡ is_narrow number }
@@ -84,23 +102,48 @@ pub(crate) fn ends_of(span: &Span) -> Option<Ends>
 }
 
 /// The span of the wall clock.
-pub(crate) fn wall(companion: &Companion, reading: u64, out: &mut Ends) -> u32
+pub(crate) fn wall(follower: &Follower, reading: u64, out: &mut Ends) -> u32
     ensures kept { result ≢ DONE → out.new ≡ out.old }
-    ensures before { at_reading companion.now reading DONE ≢ DONE
-        → result ≡ at_reading companion.now reading DONE }
-    ensures code { at_reading companion.now reading DONE ≡ DONE → (history : History)
-        → StandsFor companion.now history → result ≡ span_code
-        (wall_span (own_of companion.now) reading (accepted_answers (own_of companion.now) history)) }
-    ensures span { result ≡ DONE → IsTheWall reading out.new companion.now }
-    ensures truth { result ≡ DONE → HoldsTheWall reading out.new companion.now }
+    ensures before { noticed_at follower.now reading ≢ DONE
+        → result ≡ noticed_at follower.now reading }
+    ensures code { noticed_at follower.now reading ≡ DONE → (history : History)
+        → StandsFor follower.now.companion history → result ≡ span_code
+        (wall_span (own_of follower.now.companion) reading (accepted_answers (own_of follower.now.companion) history)) }
+    ensures span { result ≡ DONE → IsTheWall reading out.new follower.now.companion }
+    ensures truth { result ≡ DONE → HoldsTheWall reading out.new follower.now.companion }
 {
-    let code = early(companion, reading);
+    let code = noticed(follower, reading);
     if code != codes::DONE {
         return code;
     }
-    match companion.wall(reading) {
+    match follower.companion.wall(reading) {
         None => codes::NO_ANSWER,
         Some(span) => match ends_of(&span) {
+            None => codes::TOO_WIDE,
+            Some(wall) => {
+                *out = wall;
+                codes::DONE
+            }
+        },
+    }
+}
+
+/// The span of the wall clock that all accepted answers allow together.
+pub(crate) fn agreed(follower: &Follower, reading: u64, out: &mut Ends) -> u32
+    ensures kept { result ≢ DONE → out.new ≡ out.old }
+    ensures before { noticed_at follower.now reading ≢ DONE → result ≡ noticed_at follower.now reading }
+    ensures code { noticed_at follower.now reading ≡ DONE → IsAgreedCode reading result follower.now }
+    ensures shared { result ≡ DONE → IsTheirs reading out.new follower.now }
+    ensures truth { result ≡ DONE → IsTrueOfAll reading out.new follower.now }
+{
+    let code = noticed(follower, reading);
+    if code != codes::DONE {
+        return code;
+    }
+    match follower.agree.at(reading) {
+        Agreed::Nothing => codes::NO_ANSWER,
+        Agreed::Disagree { .. } => codes::DISAGREE,
+        Agreed::Within(span) => match ends_of(&span) {
             None => codes::TOO_WIDE,
             Some(wall) => {
                 *out = wall;
@@ -161,23 +204,23 @@ pub(crate) fn told(report: &Report) -> Result<Ends, u32>
 }
 
 /// The ticks, with what they go by.
-pub(crate) fn ticks(companion: &Companion, reading: u64, out: &mut Position) -> u32
+pub(crate) fn ticks(follower: &Follower, reading: u64, out: &mut Position) -> u32
     ensures kept { result ≢ DONE → out.new ≡ out.old }
-    ensures before { at_reading companion.now reading DONE ≢ DONE
-        → result ≡ at_reading companion.now reading DONE }
-    ensures code { at_reading companion.now reading DONE ≡ DONE → (history : History)
-        → StandsFor companion.now history → result ≡ report_code
-        (report_after (own_of companion.now) companion.now.setup.selector history reading) }
-    ensures truth { result ≡ DONE → HoldsThePosition reading out.new companion.now }
-    ensures timing { result ≡ DONE → GoesWith out.new companion.now }
+    ensures before { noticed_at follower.now reading ≢ DONE
+        → result ≡ noticed_at follower.now reading }
+    ensures code { noticed_at follower.now reading ≡ DONE → (history : History)
+        → StandsFor follower.now.companion history → result ≡ report_code
+        (report_after (own_of follower.now.companion) follower.now.companion.setup.selector history reading) }
+    ensures truth { result ≡ DONE → HoldsThePosition reading out.new follower.now.companion }
+    ensures timing { result ≡ DONE → GoesWith out.new follower.now.companion }
 {
-    let code = early(companion, reading);
+    let code = noticed(follower, reading);
     if code != codes::DONE {
         return code;
     }
-    match told(&companion.report(reading)) {
+    match told(&follower.companion.report(reading)) {
         Err(code) => code,
-        Ok(ticks) => match companion.timing() {
+        Ok(ticks) => match follower.companion.timing() {
             Err(cause) => cause_code(cause),
             Ok(timing) => {
                 *out = placed(ticks, timing);

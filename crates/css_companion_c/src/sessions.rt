@@ -1,5 +1,5 @@
 //! What comes on both sessions, and what is sent.
-ghost use Rattle.std.specs.Prelude.{◌≡◌, ◌≢◌, ℕ, ◌∷◌, Some, true, length};
+ghost use Rattle.std.specs.Prelude.{◌≡◌, ◌≢◌, ℕ, ◌∷◌, Some, Err, true, length};
 ghost use Rattle.css_model.specs.History.{History, Entry, Heard, Dialled};
 ghost use Rattle.css_model.specs.declared.Kind.TheVariants as kind;
 ghost use Rattle.css_tsmsg.specs.Controls.{control_of};
@@ -11,11 +11,14 @@ ghost use Rattle.css_companion.specs.Contents.{CarriesNoMemory};
 ghost use Rattle.css_companion.specs.declared.event.CompanionEvent.TheVariants as event;
 ghost use Rattle.css_companion_c.specs.Codes.{if_short, owed_code, fault_code, room_code, Answers, ChangesNothing};
 ghost use Rattle.css_companion_c.specs.Codes.{GoesOn, DONE, NO_ROOM};
+ghost use Rattle.css_cii.specs.declared.state.State.{State};
+ghost use Rattle.css_companion_c.specs.Noticing.{refused_for};
 ghost use Rattle.css_companion_c.specs.Texts.{Holds};
 
 use crate::codes;
+use crate::follower::Follower;
 use crate::texts::put;
-use css_cii::CiiFault;
+use css_cii::{CiiFault, CiiName};
 use css_companion::{Companion, CompanionEvent, CompanionFault};
 use css_num::Text;
 use std::alloc::Global;
@@ -36,20 +39,48 @@ fn fault_code(fault: &CompanionFault) -> u32
     }
 }
 
+/// The property for which a text is refused, if it is refused for one.
+fn refused_for(fault: &CompanionFault) -> Option<CiiName>
+    ensures { result ≡ refused_for {T = State} (Err fault.now) }
+{
+    match fault {
+        CompanionFault::BadCii { fault, .. } => match fault {
+            CiiFault::Field(name) => Some(*name),
+            _ => None,
+        },
+        CompanionFault::Moved { property, .. } => Some(*property),
+        CompanionFault::Memory => None,
+    }
+}
+
 /// Takes in a text of the CII session.
-pub(crate) fn cii(companion: &mut Companion, text: &[u8]) -> u32
-    ensures code { Answers (if_short text.now DONE) (owed_code (steps.cii_answer companion.old text.now)) result }
-    ensures told { GoesOn result → companion.new ≡ steps.with_text companion.old text.now }
+pub(crate) fn cii(follower: &mut Follower, text: &[u8]) -> u32
+    ensures code { Answers (if_short text.now DONE)
+        (owed_code (steps.cii_answer follower.old.companion text.now)) result }
+    ensures told { GoesOn result → follower.new ≡ record follower.old {
+      companion = steps.with_text follower.old.companion text.now;
+      fault = refused_for (steps.cii_answer follower.old.companion text.now);
+    } }
     ensures stands { GoesOn result → (history : History) (peer : ℕ) → kind_of peer history ≡ Some kind.Cii
-        → StandsFor companion.old history → StandsFor companion.new (Heard peer text.now ∷ history) }
-    ensures same { ChangesNothing result → companion.new ≡ companion.old }
+        → StandsFor follower.old.companion history
+        → StandsFor follower.new.companion (Heard peer text.now ∷ history) }
+    ensures same { ChangesNothing result → follower.new ≡ follower.old }
 {
     if text.len() > codes::LONGEST_TEXT {
         return codes::RANGE;
     }
-    match companion.cii(text) {
-        Ok(()) => codes::DONE,
-        Err(fault) => fault_code(&fault),
+    match follower.companion.cii(text) {
+        Ok(()) => {
+            follower.fault = None;
+            codes::DONE
+        }
+        Err(fault) => {
+            let code = fault_code(&fault);
+            if code != codes::MEMORY {
+                follower.fault = refused_for(&fault);
+            }
+            code
+        }
     }
 }
 

@@ -9,13 +9,14 @@ ghost use Rattle.css_companion.specs.Meanings.{report_after, timing_after};
 ghost use Rattle.css_companion.specs.Reports.{IsTimed};
 ghost use Rattle.css_companion.specs.Standing.{Companion as Known, StandsFor, own_of, timing_now};
 ghost use Rattle.css_companion.specs.declared.report.Report.TheVariants as reports;
-ghost use Rattle.css_companion_c.specs.Codes.{DONE, RANGE, at_reading, report_code};
+ghost use Rattle.css_companion_c.specs.Codes.{DONE, RANGE, at_reading, if_agreeing, report_code};
 ghost use Rattle.css_companion_c.specs.Promises.{HoldsThePosition, GoesWith};
 ghost use Rattle.css_companion_c.specs.Snapshots.{IsSnapshotOf, IsInRange, IsWhyNone, copied, times_of, own_in};
 ghost use Rattle.css_companion_c.specs.Snapshots.{HasRanges, IsCodeOf, timing_in, timing_at, shown, at_floor};
 ghost use Rattle.css_companion_c.specs.Snapshots.{span_in};
 
 use crate::codes;
+use crate::follower::Follower;
 use crate::reading::{Position, cause_code, placed, told};
 use css_companion::{Companion, Timing, ticks_at};
 use css_model::LIMIT;
@@ -123,11 +124,15 @@ fn taken(companion: &Companion, timing: Timing) -> Snapshot
 }
 
 /// Takes a snapshot, where the companion can tell positions by so few answers.
-pub(crate) fn take_snapshot(companion: &Companion, out: &mut Snapshot) -> u32
+pub(crate) fn take_snapshot(follower: &Follower, out: &mut Snapshot) -> u32
     ensures kept { result ≢ DONE → out.new ≡ out.old }
-    ensures code { result ≡ copied companion.now }
-    ensures truth { result ≡ DONE → IsSnapshotOf out.new companion.now }
+    ensures code { result ≡ if_agreeing follower.now (copied follower.now.companion) }
+    ensures truth { result ≡ DONE → IsSnapshotOf out.new follower.now.companion }
 {
+    if follower.disagrees {
+        return codes::DISAGREE;
+    }
+    let companion = &follower.companion;
     let kept = companion.kept();
     if kept == 0 {
         return codes::NO_ANSWER;

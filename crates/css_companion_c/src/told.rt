@@ -1,5 +1,5 @@
 //! Calls of the two sessions: their texts, and what the television told.
-ghost use Rattle.std.specs.Prelude.{◌≡◌, ◌≢◌, ℕ, Some, IfSome, ◌∷◌, length};
+ghost use Rattle.std.specs.Prelude.{◌≡◌, ◌≢◌, ℕ, None, Some, IfSome, IsSome, ◌∷◌, length};
 ghost use Rattle.css_model.specs.declared.Kind.TheVariants as kind;
 ghost use Rattle.css_model.specs.History.{Entry, Heard, Dialled};
 ghost use Rattle.css_cii.specs.States.{full_change};
@@ -10,8 +10,9 @@ ghost use Rattle.css_companion.specs.Meanings.{kind_of};
 ghost use Rattle.css_companion.specs.Steps as steps;
 ghost use Rattle.css_companion.specs.declared.event.CompanionEvent.TheVariants as event;
 ghost use Rattle.css_companion_c.specs.Codes as answers;
-ghost use Rattle.css_companion_c.specs.Codes.{DONE, NO_ROOM, ChangesNothing, GoesOn, Answers, aged};
-ghost use Rattle.css_companion_c.specs.Handles.{behind, Of, Between};
+ghost use Rattle.css_companion_c.specs.Codes.{DONE, CLOSED, NO_ROOM, ChangesNothing, GoesOn, Answers, aged};
+ghost use Rattle.css_companion_c.specs.Handles.{behind, Has, Of, Becomes, Between, KeepsAgreement};
+ghost use Rattle.css_companion_c.specs.Noticing.{refused_for, words_of};
 ghost use Rattle.css_companion_c.specs.Promises.{Adds};
 ghost use Rattle.css_companion_c.specs.Texts.{Holds, property_of, listed, TellsTimeline};
 
@@ -27,6 +28,9 @@ pub extern "C" fn css_companion_cii(alloc: Global, handle: &mut Handle, text: &[
         (answers.if_open (behind handle.old) (λ old. answers.owed_code (steps.cii_answer old text.now))) result }
     ensures same { ChangesNothing result → behind handle.new ≡ behind handle.old }
     ensures age { handle.new.age ≡ aged handle.old.age result }
+    ensures agreement { KeepsAgreement (behind handle.old) (behind handle.new) }
+    ensures fault { GoesOn result → Becomes (behind handle.old) (behind handle.new) (λ old new.
+        new.fault ≡ refused_for (steps.cii_answer old.companion text.now)) }
     ensures told { GoesOn result → Between (behind handle.old) (behind handle.new) (λ old new.
         new ≡ steps.with_text old text.now) }
     ensures stands { GoesOn result → Between (behind handle.old) (behind handle.new) (λ old new. (peer : ℕ)
@@ -34,9 +38,9 @@ pub extern "C" fn css_companion_cii(alloc: Global, handle: &mut Handle, text: &[
 {
     match handle.take(alloc) {
         Some(boxed) => {
-            let mut companion = boxed;
-            let code = sessions::cii(&mut companion, text);
-            handle.put(companion, code);
+            let mut follower = boxed;
+            let code = sessions::cii(&mut follower, text);
+            handle.put(follower, code);
             code
         }
         None => codes::CLOSED,
@@ -65,7 +69,37 @@ pub extern "C" fn css_companion_cii_field(
 {
     match handle.take(alloc) {
         Some(boxed) => {
-            let code = content::field(&boxed, property, out, used);
+            let code = content::field(&boxed.companion, property, out, used);
+            handle.put_back(boxed);
+            code
+        }
+        None => codes::CLOSED,
+    }
+}
+
+/// Puts into a buffer what was refused: the property for which the last CII text was, by its name; else why the last
+/// control timestamp can't be read.
+#[unsafe(no_mangle)]
+pub extern "C" fn css_companion_fault(
+    alloc: Global,
+    handle: &mut Handle,
+    out: &mut [u8],
+    used: &mut usize,
+) -> u32
+    ensures kept { result ≢ DONE → out.new ≡ out.old }
+    ensures closed { behind handle.old ≡ None → result ≡ CLOSED }
+    ensures code { IsSome (behind handle.old) → Has (behind handle.old) (λ old.
+        Answers DONE (answers.value_code (words_of old) (length out.old)) result) }
+    ensures same { behind handle.new ≡ behind handle.old }
+    ensures age { handle.new.age ≡ handle.old.age }
+    ensures text { result ≡ DONE → Has (behind handle.old) (λ old.
+        IfSome (words_of old) (λ words. Holds words used.new out.old out.new)) }
+    ensures needs { result ≡ NO_ROOM → Has (behind handle.old) (λ old.
+        IfSome (words_of old) (λ words. used.new ≡ length words)) }
+{
+    match handle.take(alloc) {
+        Some(boxed) => {
+            let code = content::fault(alloc, &boxed, out, used);
             handle.put_back(boxed);
             code
         }
@@ -93,7 +127,7 @@ pub extern "C" fn css_companion_cii_state(
 {
     match handle.take(alloc) {
         Some(boxed) => {
-            let code = content::state(alloc, &boxed, out, used);
+            let code = content::state(alloc, &boxed.companion, out, used);
             handle.put_back(boxed);
             code
         }
@@ -124,7 +158,7 @@ pub extern "C" fn css_companion_timeline(
 {
     match handle.take(alloc) {
         Some(boxed) => {
-            let code = timeline(&boxed, number, rate, out, used);
+            let code = timeline(&boxed.companion, number, rate, out, used);
             handle.put_back(boxed);
             code
         }
@@ -146,6 +180,7 @@ pub extern "C" fn css_companion_setup(
         (λ companion. answers.room_code (setup_text companion.setup) (length out.old))) result }
     ensures same { ChangesNothing result → behind handle.new ≡ behind handle.old }
     ensures age { handle.new.age ≡ aged handle.old.age result }
+    ensures agreement { KeepsAgreement (behind handle.old) (behind handle.new) }
     ensures told { result ≡ DONE → Between (behind handle.old) (behind handle.new) (λ old new.
         new ≡ steps.stepped old event.TsOpened) }
     ensures text { result ≡ DONE → Of (behind handle.old) (λ companion.
@@ -157,9 +192,9 @@ pub extern "C" fn css_companion_setup(
 {
     match handle.take(alloc) {
         Some(boxed) => {
-            let mut companion = boxed;
-            let code = sessions::setup(&mut companion, out, used);
-            handle.put(companion, code);
+            let mut follower = boxed;
+            let code = sessions::setup(&mut follower.companion, out, used);
+            handle.put(follower, code);
             code
         }
         None => codes::CLOSED,
@@ -172,6 +207,7 @@ pub extern "C" fn css_companion_control(alloc: Global, handle: &mut Handle, text
     ensures code { Answers (answers.heard (behind handle.old) text.now DONE) DONE result }
     ensures same { ChangesNothing result → behind handle.new ≡ behind handle.old }
     ensures age { handle.new.age ≡ aged handle.old.age result }
+    ensures agreement { KeepsAgreement (behind handle.old) (behind handle.new) }
     ensures told { result ≡ DONE → Between (behind handle.old) (behind handle.new) (λ old new.
         new ≡ record old { control = Some (control_of text.now) }) }
     ensures stands { result ≡ DONE → Between (behind handle.old) (behind handle.new) (λ old new. (peer : ℕ)
@@ -179,9 +215,9 @@ pub extern "C" fn css_companion_control(alloc: Global, handle: &mut Handle, text
 {
     match handle.take(alloc) {
         Some(boxed) => {
-            let mut companion = boxed;
-            let code = sessions::control(&mut companion, text);
-            handle.put(companion, code);
+            let mut follower = boxed;
+            let code = sessions::control(&mut follower.companion, text);
+            handle.put(follower, code);
             code
         }
         None => codes::CLOSED,
@@ -194,6 +230,7 @@ pub extern "C" fn css_companion_ts_closed(alloc: Global, handle: &mut Handle) ->
     ensures code { result ≡ answers.if_open (behind handle.old) (λ _. DONE) }
     ensures same { result ≢ DONE → behind handle.new ≡ behind handle.old }
     ensures age { handle.new.age ≡ aged handle.old.age result }
+    ensures agreement { KeepsAgreement (behind handle.old) (behind handle.new) }
     ensures told { result ≡ DONE → Between (behind handle.old) (behind handle.new) (λ old new.
         new ≡ steps.stepped old event.TsClosed) }
     ensures stands { result ≡ DONE → Between (behind handle.old) (behind handle.new) (λ old new. (entry : Entry)
@@ -201,9 +238,9 @@ pub extern "C" fn css_companion_ts_closed(alloc: Global, handle: &mut Handle) ->
 {
     match handle.take(alloc) {
         Some(boxed) => {
-            let mut companion = boxed;
-            companion.ts_closed();
-            handle.put(companion, codes::DONE);
+            let mut follower = boxed;
+            follower.companion.ts_closed();
+            handle.put(follower, codes::DONE);
             codes::DONE
         }
         None => codes::CLOSED,

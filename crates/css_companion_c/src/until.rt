@@ -1,15 +1,22 @@
 //! Until when the television's wall clock is known narrowly enough.
 ghost use Rattle.std.specs.Prelude.{◌≡◌, ◌≢◌, ◌+◌, ◌-◌, ◌*◌, ◌≤◌, ◌<◌, ◌^◌, ℕ, pos, ◌-ℤ◌, unsigned_abs, true, false};
 ghost use Rattle.css_model.specs.WallClock.{IsLocal};
-ghost use Rattle.css_companion_c.specs.Codes.{DONE, NEVER, Searches};
+ghost use Rattle.css_companion_c.specs.Codes.{DONE, NEVER, if_agreeing, Searches};
 ghost use Rattle.css_companion_c.specs.Until as at;
-ghost use Rattle.css_companion_c.specs.Until.{IsNarrowUntil, IsWideAt};
+ghost use Rattle.css_companion_c.specs.Until.{IsNarrowUntil, IsLastNarrow, IsWideAt, IsDue};
 
 use crate::codes;
+use crate::follower::Follower;
 use crate::lead::lengths;
 use css_companion::Companion;
 use css_model::{F, LIMIT};
 use css_span::{Answer, Local, scaled_width};
+
+/// How long an answer is waited for, in nanoseconds, before the next request.
+pub const WAIT: u64 = 1_000_000_000;
+
+/// How long after a request that was answered the next one may be sent, in nanoseconds.
+pub const SOONEST: u64 = 100_000_000;
 
 /// What a scaled width is multiplied by.
 fn scale(local: &Local) -> u64
@@ -77,20 +84,52 @@ fn first_wide(companion: &Companion, limit: i128) -> u64
 }
 
 /// The last reading up to which the wall clock's span is at most so wide, if there is one.
-pub(crate) fn until(companion: &Companion, width: u64, out: &mut u64) -> u32
-    ensures kept { result ≢ DONE → out.new ≡ out.old }
-    ensures code { Searches (at.any_kept companion.now) result }
-    ensures truth { result ≡ DONE → IsNarrowUntil width out.new companion.now }
-    ensures last { result ≡ DONE → IsWideAt width (out.new + 1) companion.now }
-    ensures never { result ≡ NEVER → IsWideAt width companion.now.client.floor companion.now }
+fn last_narrow(companion: &Companion, width: u64) -> Option<u64>
+    ensures { IsLastNarrow width result companion.now }
 {
-    if companion.kept() == 0 {
-        return codes::NO_ANSWER;
-    }
     let end = first_wide(companion, limit_of(width, &companion.local()));
     if end <= companion.floor() {
-        return codes::NEVER;
+        return None;
     }
-    *out = end - 1;
-    codes::DONE
+    Some(end - 1)
+}
+
+/// The same, where there is an answer, and the answers haven't disagreed.
+pub(crate) fn until(follower: &Follower, width: u64, out: &mut u64) -> u32
+    ensures kept { result ≢ DONE → out.new ≡ out.old }
+    ensures code { Searches (if_agreeing follower.now (at.any_kept follower.now.companion)) result }
+    ensures truth { result ≡ DONE → IsNarrowUntil width out.new follower.now.companion }
+    ensures last { result ≡ DONE → IsWideAt width (out.new + 1) follower.now.companion }
+    ensures never { result ≡ NEVER
+        → IsWideAt width follower.now.companion.client.floor follower.now.companion }
+{
+    if follower.disagrees {
+        return codes::DISAGREE;
+    }
+    if follower.companion.kept() == 0 {
+        return codes::NO_ANSWER;
+    }
+    match last_narrow(&follower.companion, width) {
+        None => codes::NEVER,
+        Some(last) => {
+            *out = last;
+            codes::DONE
+        }
+    }
+}
+
+/// From which reading a request is due: at once where none was sent since the last sleep; a second after the last one
+/// where no answer to it was accepted; else where the wall clock's span becomes wider, and no sooner than 100 ms after
+/// the last one.
+pub(crate) fn due(follower: &Follower, width: u64) -> u64
+    ensures { IsDue width result follower.now }
+{
+    let Some(asked) = follower.asked else {
+        return follower.companion.floor();
+    };
+    if !follower.answered {
+        return asked.saturating_add(WAIT);
+    }
+    let last = last_narrow(&follower.companion, width).unwrap_or(0);
+    asked.saturating_add(SOONEST).max(last)
 }

@@ -2,13 +2,15 @@
 ghost use Rattle.std.specs.Prelude.{◌≡◌, ◌≢◌, ◌⊎◌};
 ghost use Rattle.css_companion.specs.Reports.{IsTimed};
 ghost use Rattle.css_companion.specs.Standing.{timing_now};
-ghost use Rattle.css_companion_c.specs.Codes.{DONE, NEVER, searched, Searches};
-ghost use Rattle.css_companion_c.specs.When.{IsShownWithin, IsNeverShown, IsLeast, GoesBy};
+ghost use Rattle.css_companion_c.specs.Codes.{DONE, NEVER, if_agreeing, searched, Searches};
+ghost use Rattle.css_companion_c.specs.When.{IsShownWithin, IsNeverShown, IsLeast, LooksAt, GoesBy};
 
 use crate::codes;
+use crate::follower::Follower;
 use crate::reaching::{met, presented};
 use crate::reading::cause_code;
 use css_companion::{Companion, Timing};
+use css_model::LIMIT;
 
 /// Readings of the own clock, from one to another, both included.
 #[repr(C)]
@@ -47,7 +49,7 @@ fn between(companion: &Companion, tick: i64, timing: &Timing, out: &mut Readings
 }
 
 /// Between which readings the tick is shown, if it is. By the kept answers it may be shown at each of them.
-pub(crate) fn when(companion: &Companion, tick: i64, out: &mut Readings) -> u32
+fn found(companion: &Companion, tick: i64, out: &mut Readings) -> u32
     ensures kept { result ≢ DONE → out.new ≡ out.old }
     ensures code { Searches (searched companion.now) result }
     ensures truth { result ≡ DONE → IsShownWithin tick out.new.from out.new.to companion.now }
@@ -61,4 +63,30 @@ pub(crate) fn when(companion: &Companion, tick: i64, out: &mut Readings) -> u32
         Err(cause) => cause_code(cause),
         Ok(timing) => between(companion, tick, &timing, out),
     }
+}
+
+/// The same, where the answers haven't disagreed.
+pub(crate) fn when(follower: &Follower, tick: i64, out: &mut Readings) -> u32
+    ensures kept { result ≢ DONE → out.new ≡ out.old }
+    ensures code { Searches (if_agreeing follower.now (searched follower.now.companion)) result }
+    ensures truth { result ≡ DONE → IsShownWithin tick out.new.from out.new.to follower.now.companion }
+    ensures least { result ≡ DONE → IsLeast tick out.new.from out.new.to follower.now.companion }
+    ensures never { result ≡ NEVER → IsNeverShown tick follower.now.companion }
+{
+    if follower.disagrees {
+        return codes::DISAGREE;
+    }
+    found(&follower.companion, tick, out)
+}
+
+/// From which reading on the tick may be shown, or the greatest one where that isn't known.
+pub(crate) fn first_look(companion: &Companion, tick: i64) -> u64
+    ensures { LooksAt tick result companion.now }
+{
+    let mut readings = Readings {
+        from: LIMIT - 1,
+        to: LIMIT - 1,
+    };
+    let _ = found(companion, tick, &mut readings);
+    readings.from
 }

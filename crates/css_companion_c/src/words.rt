@@ -23,6 +23,7 @@ pub(crate) fn word(code: u32) -> &'static str
         33 => "not an object",
         34 => "a property has a wrong form",
         35 => "an address was moved",
+        36 => "answers disagree",
         48 => "NoAnswer",
         49 => "NoTimestamp",
         50 => "SessionClosed",

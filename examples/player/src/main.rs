@@ -50,7 +50,7 @@ impl Follower {
         if self.sleep.has_slept() {
             self.companion.slept()?;
         }
-        self.hear_clock();
+        self.hear_clock()?;
         while let Some(text) = self.cii.next()? {
             self.companion.cii(&text)?;
         }
@@ -64,15 +64,20 @@ impl Follower {
         Ok(())
     }
 
-    /// A datagram that is no answer is passed over: others may send too.
-    fn hear_clock(&mut self) {
+    /// A datagram that is no answer is passed over: others may send too. Answers that disagree end the visit.
+    fn hear_clock(&mut self) -> Result<(), Error> {
         let mut datagram = [0; 64];
         let Some(wall) = &self.wall else {
-            return thread::sleep(Duration::from_millis(2));
+            thread::sleep(Duration::from_millis(2));
+            return Ok(());
         };
         while let Ok(len) = wall.recv(&mut datagram) {
-            let _ = self.companion.land(&datagram[..len], reading());
+            match self.companion.land(&datagram[..len], reading()) {
+                Ok(()) | Err(Error::Ignored(_)) => {}
+                Err(error) => return Err(error),
+            }
         }
+        Ok(())
     }
 
     /// Takes in the texts of the TS session.

@@ -50,12 +50,15 @@ pub enum Cause {
     Never,
 }
 
-/// Why a call has no answer: its four groups say what to do.
+/// Why a call has no answer: its groups say what to do.
 #[derive(Clone, Copy, Debug, PartialEq, Eq)]
 pub enum Error {
     Refusal(Refusal),
     Ignored(Ignored),
     Text(TextFault),
+    /// The responses that were accepted since the last sleep contradict each other: not all of them are true. Begin
+    /// with a new companion. [`Companion::slept`](crate::Companion::slept) forgets them too.
+    Disagree,
     Cause(Cause),
 }
 
@@ -65,6 +68,7 @@ impl fmt::Display for Error {
             Error::Refusal(refusal) => write!(to, "refused: {refusal:?}"),
             Error::Ignored(ignored) => write!(to, "ignored: {ignored:?}"),
             Error::Text(fault) => write!(to, "bad text: {fault:?}"),
+            Error::Disagree => write!(to, "responses disagree"),
             Error::Cause(cause) => write!(to, "none: {cause:?}"),
         }
     }
@@ -89,6 +93,7 @@ pub(crate) fn told(code: u32) -> Result<(), Error> {
         33 => Error::Text(TextFault::NotObject),
         34 => Error::Text(TextFault::Field),
         35 => Error::Text(TextFault::Moved),
+        36 => Error::Disagree,
         48 => Error::Cause(Cause::NoAnswer),
         49 => Error::Cause(Cause::NoTimestamp),
         50 => Error::Cause(Cause::SessionClosed),

@@ -64,6 +64,7 @@ extern "C" {
     pub(crate) fn css_companion_ask(c: *mut Handle, reading: u64, request: *mut [u8; 32]) -> u32;
     pub(crate) fn css_companion_land(c: *mut Handle, datagram: *const u8, len: usize, reading: u64) -> u32;
     pub(crate) fn css_companion_wall(c: *mut Handle, reading: u64, wall: *mut Span) -> u32;
+    pub(crate) fn css_companion_agreed(c: *mut Handle, reading: u64, wall: *mut Span) -> u32;
     pub(crate) fn css_companion_cii(c: *mut Handle, text: *const u8, len: usize) -> u32;
     pub(crate) fn css_companion_cii_field(
         c: *mut Handle,
@@ -72,6 +73,7 @@ extern "C" {
         room: usize,
         used: *mut usize,
     ) -> u32;
+    pub(crate) fn css_companion_fault(c: *mut Handle, out: *mut u8, room: usize, used: *mut usize) -> u32;
     pub(crate) fn css_companion_cii_state(c: *mut Handle, out: *mut u8, room: usize, used: *mut usize) -> u32;
     pub(crate) fn css_companion_timeline(
         c: *mut Handle,
@@ -95,6 +97,13 @@ extern "C" {
     pub(crate) fn css_companion_lead(c: *mut Handle, reading: u64, tick: i64, lead: *mut Span) -> u32;
     pub(crate) fn css_companion_when(c: *mut Handle, tick: i64, readings: *mut Readings) -> u32;
     pub(crate) fn css_companion_until(c: *mut Handle, width: u64, reading: *mut u64) -> u32;
+    pub(crate) fn css_companion_next(
+        c: *mut Handle,
+        width: u64,
+        tick: i64,
+        ask: *mut u64,
+        look: *mut u64,
+    ) -> u32;
     pub(crate) fn css_companion_snapshot(c: *mut Handle, snapshot: *mut crate::Snapshot) -> u32;
     pub(crate) fn css_snapshot_position(
         snapshot: *const crate::Snapshot,

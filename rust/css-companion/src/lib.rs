@@ -35,7 +35,8 @@ pub struct Position {
 
 /// What positions go by, as plain data: for a thread that can't wait, such as one of audio.
 ///
-/// It knows what its companion knew. Take a new one when [`Companion::age`] rises, and drop it after a sleep.
+/// It knows what its companion knew, and nothing of responses that came since, nor that they disagree. Take a new one
+/// when [`Companion::age`] rises, and drop it after a sleep, and where none can be taken.
 #[repr(C)]
 #[derive(Clone, Copy, Debug, Default, PartialEq, Eq)]
 pub struct Snapshot {
@@ -59,6 +60,17 @@ impl Snapshot {
         told(unsafe { ffi::css_snapshot_position(self, reading, &mut position) })?;
         Ok(position)
     }
+}
+
+/// When to do something next: readings of the own clock.
+#[derive(Clone, Copy, Debug, Default, PartialEq, Eq)]
+pub struct Next {
+    /// From then on a request is due: at once where none was sent since the last sleep; a second after the last one
+    /// where no response to it was accepted; else where the wall clock's span becomes too wide, and no sooner than
+    /// 100 ms after the last one.
+    pub ask: u64,
+    /// From then on the tick may be shown. The greatest reading where it isn't, or that isn't known.
+    pub look: u64,
 }
 
 /// A property of the content's state that is a text.
@@ -152,15 +164,23 @@ impl Companion {
         Ok(request)
     }
 
-    /// Takes in a datagram that landed at this reading.
+    /// Takes in a datagram that landed at this reading. [`Error::Disagree`] where it tells of an exchange that can't be
+    /// true together with those accepted since the last sleep: from then on nothing is told of the wall clock.
     pub fn land(&mut self, datagram: &[u8], reading: u64) -> Result<(), Error> {
         told(unsafe { ffi::css_companion_land(&mut self.handle, datagram.as_ptr(), datagram.len(), reading) })
     }
 
-    /// What the television's wall clock shows at this reading, in nanoseconds.
+    /// What the television's wall clock shows at this reading, in nanoseconds, by the narrowest response.
     pub fn wall(&mut self, reading: u64) -> Result<RangeInclusive<i64>, Error> {
         let mut wall = Span::default();
         told(unsafe { ffi::css_companion_wall(&mut self.handle, reading, &mut wall) })?;
+        Ok(wall.lo..=wall.hi)
+    }
+
+    /// What it shows by all responses together that were accepted since the last sleep.
+    pub fn agreed(&mut self, reading: u64) -> Result<RangeInclusive<i64>, Error> {
+        let mut wall = Span::default();
+        told(unsafe { ffi::css_companion_agreed(&mut self.handle, reading, &mut wall) })?;
         Ok(wall.lo..=wall.hi)
     }
 
@@ -174,6 +194,16 @@ impl Companion {
         let handle = &mut self.handle;
         match text(|out, room, used| unsafe { ffi::css_companion_cii_field(handle, property as u32, out, room, used) })
         {
+            Err(Error::Cause(Cause::Null)) => Ok(None),
+            other => other.map(Some),
+        }
+    }
+
+    /// What was refused, for a person: the property for which the last CII text was, as `wcUrl`; else why the last
+    /// control timestamp can't be read, as `Field contentTime`. None where there is neither.
+    pub fn fault(&mut self) -> Result<Option<String>, Error> {
+        let handle = &mut self.handle;
+        match text(|out, room, used| unsafe { ffi::css_companion_fault(handle, out, room, used) }) {
             Err(Error::Cause(Cause::Null)) => Ok(None),
             other => other.map(Some),
         }
@@ -256,6 +286,14 @@ impl Companion {
         let mut reading = 0;
         told(unsafe { ffi::css_companion_until(&mut self.handle, width, &mut reading) })?;
         Ok(reading)
+    }
+
+    /// When to do something next, where [`Companion::wall`] is to be at most `width` nanoseconds wide and `tick` is
+    /// waited for. Sleep until the lesser of the two readings, or until something comes.
+    pub fn next(&mut self, width: u64, tick: i64) -> Result<Next, Error> {
+        let mut next = Next::default();
+        told(unsafe { ffi::css_companion_next(&mut self.handle, width, tick, &mut next.ask, &mut next.look) })?;
+        Ok(next)
     }
 
     /// A copy of what positions go by.

@@ -1,6 +1,6 @@
 //! Each call once, and the first example of `css replay`: 5197 to 5603.
 use css_companion::{
-    presentation, version, Bound, Cause, Companion, Error, Ignored, Property, Refusal, Snapshot, TextFault,
+    presentation, version, Bound, Cause, Companion, Error, Ignored, Next, Property, Refusal, Snapshot, TextFault,
 };
 
 const ANSWER: [u8; 32] =
@@ -20,7 +20,7 @@ fn asked() -> Companion {
 
 #[test]
 fn one_exchange() {
-    assert_eq!(version(), 1);
+    assert_eq!(version(), 2);
     assert_eq!(asked().wall(1600), Ok(5197..=5603));
 }
 
@@ -89,6 +89,49 @@ fn until() {
     let width = |wall: std::ops::RangeInclusive<i64>| wall.end() - wall.start();
     assert!(width(c.wall(last).unwrap()) <= 1_000_000);
     assert!(width(c.wall(last + 2_000_000_000).unwrap()) > 1_000_000);
+}
+
+#[test]
+fn answers_that_disagree() {
+    let mut c = asked();
+    assert_eq!(c.agreed(1600), Ok(5197..=5603));
+    // asked at 2000, received at 10,100 and answered at 10,150: the television set its clock 4000 ns forward
+    let mut second = ANSWER;
+    second[14..16].copy_from_slice(&2000_u16.to_be_bytes());
+    second[22..24].copy_from_slice(&10_100_u16.to_be_bytes());
+    second[30..32].copy_from_slice(&10_150_u16.to_be_bytes());
+    c.ask(2000).unwrap();
+    assert_eq!(c.land(&second, 2380), Err(Error::Disagree));
+    assert_eq!(c.wall(2380), Err(Error::Disagree));
+    assert_eq!(c.agreed(2380), Err(Error::Disagree));
+    assert_eq!(c.next(1000, 0), Err(Error::Disagree));
+    assert_eq!(c.snapshot(), Err(Error::Disagree));
+    c.slept().unwrap();
+    assert_eq!(c.wall(2380), Err(Error::Cause(Cause::NoAnswer)));
+}
+
+#[test]
+fn next() {
+    const GREATEST: u64 = (1 << 32) * 1_000_000_000 - 1;
+    let mut c = Companion::new("urn:dvb:css:timeline:pts", "", 128_000, 1_000).unwrap();
+    assert_eq!(c.next(1_000_000, 990_000), Ok(Next { ask: 0, look: GREATEST }));
+    c.ask(1000).unwrap();
+    assert_eq!(c.next(1_000_000, 990_000), Ok(Next { ask: 1_000_001_000, look: GREATEST }));
+    c.land(&ANSWER, 1600).unwrap();
+    c.control(CONTROL).unwrap();
+    let (last, when) = (c.until(1_000_000).unwrap(), c.when(990_000).unwrap());
+    assert_eq!(c.next(1_000_000, 990_000), Ok(Next { ask: last.max(100_001_000), look: *when.start() }));
+}
+
+#[test]
+fn fault() {
+    let mut c = asked();
+    assert_eq!(c.fault(), Ok(None));
+    assert_eq!(c.cii(r#"{"wcUrl":5}"#), Err(Error::Text(TextFault::Field)));
+    assert_eq!(c.fault().unwrap().as_deref(), Some("wcUrl"));
+    c.cii(CII).unwrap();
+    c.control(r#"{"contentTime":5}"#).unwrap();
+    assert_eq!(c.fault().unwrap().as_deref(), Some("Field contentTime"));
 }
 
 #[test]

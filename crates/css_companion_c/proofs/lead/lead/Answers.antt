@@ -29,8 +29,8 @@ returns-in-Some-ends_of-clause-lead c = λ _ history known.
 
 pub returns-in-Some-ends_of-clause-truth : goal.returns-in-Some-ends_of-clause-truth
 returns-in-Some-ends_of-clause-truth c = λ _.
-    subst (λ (t : ℤ). HoldsTheLead c.args.reading t c.in-Some-ends_of.lead c.args.companion.now)
+    subst (λ (t : ℤ). HoldsTheLead c.args.reading t c.in-Some-ends_of.lead c.args.follower.now.companion)
     (to_z-of_z c.ranges.tick)
-    (holds c.args.companion.now c.args.reading _ c.in-Some.span c.in-Ok.timing c.in-Some-ends_of.lead
+    (holds c.args.follower.now.companion c.args.reading _ c.in-Some.span c.in-Ok.timing c.in-Some-ends_of.lead
     c.in-Some.ensures.holds (λ history known. sym (c.in-Ok.ensures.meaning history known)) c.lead_at.ensures.units
     (sym c.lead_at.ensures.value ∙ c.in-Some-ends_of.ensures.value))

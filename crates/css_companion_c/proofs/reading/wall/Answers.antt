@@ -9,5 +9,5 @@ returns-in-Some-ends_of-clause-span c = λ _ history known.
 
 pub returns-in-Some-ends_of-clause-truth : goal.returns-in-Some-ends_of-clause-truth
 returns-in-Some-ends_of-clause-truth c = λ _.
-    subst (λ (s : Interval). ContainsTheWall c.args.companion.now.client c.args.reading (Some s))
+    subst (λ (s : Interval). ContainsTheWall c.args.follower.now.companion.client c.args.reading (Some s))
     c.in-Some-ends_of.ensures.value c.in-Some.ensures.holds

@@ -22,8 +22,8 @@ use Rattle.std_heap.specs.contracts.GlobalAllocator.TheImpl.{ghosts}
 use Rattle.css_companion_c.proofs.Heap.{heap}
 use Rattle.css_companion_c.proofs.Pairs.{pair, pointer, pair_fits, pair_in, pair_out, Pair}
 use Rattle.css_companion_c.specs.Holding.{held_owns}
-use Rattle.css_companion.specs.Standing.{Companion}
-use Rattle.css_companion.specs.contracts.companion.Companion.{the_row as Kept}
+use Rattle.css_companion_c.specs.declared.follower.Follower.{Follower}
+use Rattle.css_companion_c.specs.contracts.follower.Follower.{the_row as Kept}
 use Rattle.css_companion_c.specs.contracts.parts.Parts as parts
 use Rattle.css_companion_c.specs.contracts.held.Held.{the_row as Held}
 use Rattle.css_companion_c.specs.contracts.held.Held.into_parts as f
@@ -36,7 +36,7 @@ Parts = parts.the_row Kept Global ghosts
 abbrev stayed : Stays f.ended.signature.params f.ended.kept
 stayed = (stay_dropped (plain (λ _. Held)) yes, tt)
 
-there : (kept : Option Companion) → IsSome kept → (x : Companion) × (kept ≡ Some x)
+there : (kept : Option Follower) → IsSome kept → (x : Follower) × (kept ≡ Some x)
 there (Some x) is = (x, refl)
 there None is = absurd (true≢false (sym is))
 
@@ -53,7 +53,7 @@ into_parts_spec 𝓤 𝓛 𝓜 𝓡 wired =
     let x = (there d.kept live).0 in let is_x = (there d.kept live).1 in
     let made : Parts.Denot = record { at = d.at; alloc = d.alloc; value = x } in
     split ! $ drop ! $ fsplit ! $ move ! (1 ∷ []) $ drop ! $ fsplit ! $ move ! (1 ∷ []) $
-    rewrite ! 0 (λ (kept : Option Companion). ‵ (held_owns d.at kept)) is_x refl $ move ! (1 ∷ []) $
+    rewrite ! 0 (λ (kept : Option Follower). ‵ (held_owns d.at kept)) is_x refl $ move ! (1 ∷ []) $
     pair_out heap ! d.at d.alloc z.0.4.0 (λ h is fits.
     let w = pair (ptr_val d.at) h in let typed = pair_fits heap d.at h fits in
     suffices ! (Run (w ∷ [])) (subst (λ (us : List Val). ent 𝓤 (Run (w ∷ [])) (Run us)) (sym (λ i. is i ++ []))

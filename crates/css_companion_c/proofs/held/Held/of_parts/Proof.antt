@@ -22,7 +22,7 @@ use Rattle.std_heap.specs.contracts.Global.{the_row as Global}
 use Rattle.std_heap.specs.contracts.GlobalAllocator.TheImpl.{ghosts}
 use Rattle.css_companion_c.proofs.Heap.{heap}
 use Rattle.css_companion_c.proofs.Pairs.{pair, pointer, pair_fits, pair_in, pair_out, Pair}
-use Rattle.css_companion.specs.contracts.companion.Companion.{the_row as Kept}
+use Rattle.css_companion_c.specs.contracts.follower.Follower.{the_row as Kept}
 use Rattle.css_companion_c.specs.contracts.parts.Parts as parts
 use Rattle.css_companion_c.specs.contracts.held.Held.{the_row as Held}
 use Rattle.css_companion_c.specs.contracts.held.Held.of_parts as f
