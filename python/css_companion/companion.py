@@ -15,6 +15,7 @@ from .calls import LIBRARY
 from .clock import Clock, MachineClock
 
 PTS = "urn:dvb:css:timeline:pts"
+GREATEST = 2**32 * 10**9 - 1
 Text = Union[str, bytes, bytearray, memoryview]
 
 
@@ -296,7 +297,7 @@ class Companion:
         ask, look = c_uint64(0), c_uint64(0)
         numbers = unsigned(width), whole(tick, 64, signed=True)
         self._awake(later("css_companion_next"), *numbers, byref(ask), byref(look))
-        return Next(ask.value, None if look.value == 2**64 - 1 else look.value)
+        return Next(ask.value, None if look.value == GREATEST else look.value)
 
     def snapshot(self) -> Snapshot:
         """What positions go by now, for another thread. Take a new one when the age rises."""
