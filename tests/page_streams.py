@@ -1,5 +1,6 @@
 """Streams of lines that tools/page.py has to bear: many, long ago, cut and begun again, and odd ones."""
 import json
+import re
 import time
 
 from page_browser import DESK
@@ -130,6 +131,8 @@ def selected(check, browser, port):
     reading, *shown = map(int, browser.seen()["now"].split() or [0])
     report = [line for line in lines if "ticks" in line][-1]
     check("and another rate goes on with it", reading and shown == position(report, control, SLOW_RATE, reading), shown)
+    way = re.search(r"way of the lines\s+up to (\d+\.\d+|\d+) ms, not counted", browser.text("facts"))
+    check("it says how much later it may be by now", way and float(way[1]) >= 20, way and way[1])
     page.end()
 
 
