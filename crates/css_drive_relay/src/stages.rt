@@ -1,13 +1,11 @@
 //! What a turn of a relay has to do with clocks: its readings, its dials, its own request, what lands, and the requests
 //! that it answers.
-ghost use Rattle.std.specs.Prelude.{◌≡◌, ◌≤◌, ◌∷◌, ℕ, OnOk, IfOk, IfErr, MatchResult, None, is_some, true, false};
-ghost use Rattle.css_model.specs.History.{History, Took, request_in};
-ghost use Rattle.css_outside.specs.Faults.{HasRisen};
-ghost use Rattle.css_drive.specs.CompanionStanding.{Shown, shown, Calls};
+ghost use Rattle.std.specs.Prelude.{◌≡◌, ◌≤◌, ℕ, IfOk, IfErr, None, is_some, true, false};
+ghost use Rattle.css_model.specs.History.{request_in};
+ghost use Rattle.css_drive.specs.CompanionStanding.{shown, Calls};
 ghost use Rattle.css_drive_relay.specs.Places.{Taken, Served};
 ghost use Rattle.css_drive_relay.specs.Due.{from_take};
-ghost use Rattle.css_drive_relay.specs.Standing.{Comes, Goes, HasRead, IsAt, Keeps, Knows, Lands, Leads, Stands, Stops};
-ghost use Rattle.css_drive_relay.specs.Standing.{goes_on_at, placed, stood};
+ghost use Rattle.css_drive_relay.specs.Standing.{Goes, HasRead, IsAt, Keeps, Lands, Leads, goes_on_at, placed};
 
 use crate::live::Live;
 use crate::plan::Plan;

@@ -1,9 +1,8 @@
 //! The calls that a relay makes of the television, by the stages of a companion's run. Nobody observes that run.
-ghost use Rattle.std.specs.Prelude.{◌≡◌, ◌≤◌, OnOk, None};
-ghost use Rattle.css_outside.specs.Faults.{HasRisen};
+ghost use Rattle.std.specs.Prelude.{◌≤◌, None};
+ghost use Rattle.css_companion.specs.declared.binding.Binding.TheVariants.{WallClock};
 ghost use Rattle.css_drive.specs.CompanionStanding as companions;
 ghost use Rattle.css_drive.specs.CompanionStanding.{shown, Calls, HasRead};
-ghost use Rattle.css_companion.specs.declared.binding.Binding.TheVariants.{WallClock};
 ghost use Rattle.css_drive.specs.Stages.{HearsOnce, at, at_of};
 ghost use Rattle.css_drive.specs.declared.session.Session.TheVariants as sessions;
 ghost use Rattle.css_drive_relay.specs.Standing.{DialsAndAsks, HasDialled, Stays, UnlessFault};

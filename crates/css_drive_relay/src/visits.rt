@@ -191,8 +191,8 @@ fn make_visits<O: Outside>(alloc: Global, plan: &mut Plan, outside: &mut O) -> D
 /// A visit ends where the television closes CSS-CII, says a text that can't be read, moves its wall clock's address or
 /// tells one that is none, and where its answers contradict each other. Then all sessions are hung up, the accepted
 /// ones first, and the next turn begins another visit, with a new companion. So nobody who was answered in one visit
-/// goes on with its sessions in the next. The relay opens no CSS-TS, so the address of that ends nothing: it is told on,
-/// whatever it is.
+/// goes on with its sessions in the next. The relay opens no CSS-TS, so the address of that ends nothing: it is told
+/// on, whatever it is.
 ///
 /// The texts of the configuration are UTF-8. The run ends as `Done` with the last turn, or as `Unreachable` where no
 /// dial of CSS-CII succeeded. A fault of the outside ends it at once, or want of memory; of the faults of a dial only
