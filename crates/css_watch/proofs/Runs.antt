@@ -136,17 +136,18 @@ at_cause told None progress held holds (driven.BadUrl property) s = none told (d
 
 -- ---- the run
 pub run_of : (plan : Plan) (begun : Begun) (start now : Stage) (saw : List Note → Type 0) (over : Option OutFault)
-    (parting : Option Parting) (first progress : Progress) (agree : Kept) (ended : Driven)
-    → first ≡ fresh (with_visit begun) → (m : Made plan.run start.told now.told saw over ended)
+    (parting : Option Parting) (first progress left : Progress) (agree : Kept) (ended : Driven)
+    → first ≡ fresh (with_visit begun) → left ≡ progress → (m : Made plan.run start.told now.told saw over ended)
     → (AreFrom plan.run (noted plan.run m.history) → IsTelling plan first over parting progress agree start.holds
     now.holds start.writes now.writes (noted plan.run m.history))
-    → drive.CountsNetFault start.faults now.faults ended → IsRun plan begun start now m.history ended parting progress
-run_of plan begun start now saw over parting first progress agree ended e m t counted =
+    → drive.CountsNetFault start.faults now.faults ended → IsRun plan begun start now m.history ended parting left
+run_of plan begun start now saw over parting first progress left agree ended e same m t counted =
+    let R : Progress → Type 0 = λ x. IsRun plan begun start now m.history ended parting x in
     let P : Progress → Type 0 = λ x. IsTelling plan x over parting progress agree start.holds now.holds start.writes
     now.writes (noted plan.run m.history) in
     let s = saw_of plan (told_of plan (fresh (with_visit begun)) (noted plan.run m.history)) over parting progress agree
     start.holds now.holds start.writes now.writes ended (subst P e (t (are_from plan.run m.history))) m.so in
-    record {
+    subst R (sym same) (record {
       visited = record {
         proper = m.proper;
         ends = m.ends;
@@ -158,7 +159,7 @@ run_of plan begun start now saw over parting first progress agree ended e m t co
       saw = s.0;
       faults = counted;
       writes = s.1;
-    }
+    })
 
 -- what an observer has told that is fresh: nothing
 pub tells_first : (plan : Plan) (begun : Begun) (progress : Progress) (agree : Kept) (over : Option OutFault)

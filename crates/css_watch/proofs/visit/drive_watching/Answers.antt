@@ -13,6 +13,6 @@ returns-clause-run g c begun e =
     let made = c.drive-ended.ensures.made in
     record {
       history = made.history;
-      run = runs.run_of c.args.watching.now.plan.now begun _ _ _ _ _ _ _ _ c.drive-ended.result e made made.saw_so.2
-          c.drive-ended.ensures.net_faults;
+      run = runs.run_of c.args.watching.now.plan.now begun _ _ _ _ _ _ _ _ _ c.drive-ended.result e
+          c.replace.ensures.value made made.saw_so.2 c.drive-ended.ensures.net_faults;
     }

@@ -3,6 +3,7 @@ use Rattle.css_agree.specs.Keeping.{Kept}
 use Rattle.css_outside.specs.Bytes.{AppendsPrefix}
 use Rattle.css_outside.specs.declared.fault.OutFault.TheVariants as fault
 use Rattle.css_drive.specs.Notes as notes
+use Rattle.css_watch.specs.Progress.{after_text}
 use Rattle.css_watch.specs.Telling.{lines_by, text_of}
 use Rattle.css_watch.specs.Watching.{IsOf}
 use Rattle.css_watch.specs.declared.progress.Progress.{Progress}
@@ -13,7 +14,8 @@ pub returns-in-Ts-clause-steps : goal.returns-in-Ts-clause-steps
 returns-in-Ts-clause-steps g c history k answers of =
     let P : Kept → Type 0 = λ x. IsOf c.args.self.now.plan.now x answers in record {
       says = c.say.ensures.said _ (c.heard_text-line.ensures history k.stands);
-      progress_so = λ none. c.say.ensures.progress;
+      progress_so = λ none. c.say.ensures.progress ∙ ap (λ x. after_text x c.args.text.now history c.args.self.now.progress)
+          (sym c.in-Ts.is);
       agree_so = λ none. subst P (sym c.say.ensures.agree) of;
     }
 
@@ -22,9 +24,10 @@ returns-in-Ok-clause-steps g c history k answers of =
     let P : Kept → Type 0 = λ x. IsOf c.args.self.now.plan.now x answers in
     let Q : Option (List ℕ) → Progress = λ x. record c.args.self.now.progress { unread = x } in
     record {
-      says = c.say.ensures.said _ (c.heard_text-line.ensures history k.stands);
-      progress_so = λ none. c.say.ensures.progress ∙ ap Q (c.in-Ok.ensures history k.stands);
-      agree_so = λ none. subst P (sym c.say.ensures.agree) of;
+      says = c.say-in-Ok.ensures.said _ (c.heard_text-line.ensures history k.stands);
+      progress_so = λ none. c.say-in-Ok.ensures.progress ∙ ap Q (c.in-Ok.ensures history k.stands)
+          ∙ ap (λ x. after_text x c.args.text.now history c.args.self.now.progress) (sym c.in-Cii.is);
+      agree_so = λ none. subst P (sym c.say-in-Ok.ensures.agree) of;
     }
 
 pub returns-in-Err-clause-steps : goal.returns-in-Err-clause-steps

@@ -13,7 +13,7 @@ returns g c from started older on s = (
       _ _ _ _ _ on s.2
       (λ e answers of. let P : Kept → Type 0 = λ x. IsOf started.plan.now x answers in record {
         says = telling.says_as c.closed_at_once.ensures (c.say.ensures.said [] c.new.ensures);
-        progress_so = λ none. c.say.ensures.progress ∙ c.after_end-self.ensures;
+        progress_so = λ none. c.say.ensures.progress ∙ c.after_end.ensures;
         agree_so = λ none. subst P (sym c.say.ensures.agree) of;
       }),
 )

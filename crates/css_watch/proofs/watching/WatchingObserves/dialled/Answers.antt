@@ -13,7 +13,7 @@ returns g c from started older on s = (
       _ _ _ _ _ on s.2
       (λ e answers of. let P : Kept → Type 0 = λ x. IsOf started.plan.now x answers in record {
         says = c.say.ensures.said _ c.dial_text-text.ensures;
-        progress_so = λ none. c.say.ensures.progress ∙ c.after_dial-self.ensures;
+        progress_so = λ none. c.say.ensures.progress ∙ c.after_dial.ensures;
         agree_so = λ none. subst P (sym c.say.ensures.agree) of;
       }),
 )
