@@ -269,9 +269,9 @@ fn drive_watching<K: Sink, O: Outside>(
     requires known { Knows watching.old.plan.now.run.companion companion.old [] }
     requires floor { companion.old.client.floor ≡ 0 }
     requires bounds { IfSome watching.old.plan.now.run.present IsWindow }
-    requires fresh { (begun : Started) × IsFresh watching.old.plan.now begun watching.old.progress
+    requires fresh { (begun : Started) × IsFresh watching.old.plan.now begun watching.old.progress.now
         watching.old.agree.now watching.old.over watching.old.parting }
-    ensures run { (begun : Started) → watching.old.progress ≡ fresh (with_visit begun)
+    ensures run { (begun : Started) → watching.old.progress.now ≡ fresh (with_visit begun)
         → HasRun watching.old.plan.now begun
         (stage (O.told outside.old) (O.counts outside.old) (K.holds watching.old.sink.now)
         (K.faults watching.old.sink.now))
@@ -287,7 +287,7 @@ fn drive_watching<K: Sink, O: Outside>(
     Run {
         ended,
         parting: watching.parting,
-        progress: replace(&mut watching.progress, left),
+        progress: replace(watching.progress, left),
     }
 }
 
@@ -311,11 +311,12 @@ fn make_run<K: Sink, O: Outside>(
         result.ended }
 {
     let mut agree = Agree::new(alloc, plan.run.companion.local);
+    let mut progress = Progress::fresh(begun.with_visit());
     let mut watching = Watching {
         alloc,
         plan,
         sink,
-        progress: Progress::fresh(begun.with_visit()),
+        progress: &mut progress,
         agree: &mut agree,
         over: None,
         parting: None,

@@ -37,7 +37,7 @@ pub(crate) struct Watching<'a, K: Sink> {
     pub(crate) alloc: Global,
     pub(crate) plan: &'a Plan,
     pub(crate) sink: &'a mut K,
-    pub(crate) progress: Progress,
+    pub(crate) progress: &'a mut Progress,
     /// The answers that were accepted since the last sleep.
     pub(crate) agree: &'a mut Agree,
     /// Why nothing is called any more, if nothing is: a write failed, memory ran out, or the visit ends.
@@ -188,7 +188,7 @@ impl<'a, K: Sink> Watching<'a, K> {
     fn say(&mut self, text: Result<Text, Memory>, parting: Option<Parting>)
         ensures sink_name { self.new.sink.ghost_name ≡ self.old.sink.ghost_name }
         ensures plan { self.new.plan.now ≡ self.old.plan.now }
-        ensures progress { self.new.progress ≡ self.old.progress }
+        ensures progress { self.new.progress.now ≡ self.old.progress.now }
         ensures agree { self.new.agree.now ≡ self.old.agree.now }
         ensures said { (bytes : List ℕ) → IfOk text (λ text. text ≡ bytes) → Says self.new.over self.new.parting
             parting (K.holds self.old.sink.now) (K.holds self.new.sink.now) (K.faults self.old.sink.now)
@@ -203,7 +203,7 @@ impl<'a, K: Sink> Watching<'a, K> {
     fn fail(&mut self)
         ensures sink_name { self.new.sink.ghost_name ≡ self.old.sink.ghost_name }
         ensures plan { self.new.plan.now ≡ self.old.plan.now }
-        ensures progress { self.new.progress ≡ self.old.progress }
+        ensures progress { self.new.progress.now ≡ self.old.progress.now }
         ensures over { self.new.over ≡ Some OutFault.Memory }
         ensures parting { self.new.parting ≡ None }
         ensures holds { K.holds self.new.sink.now ≡ K.holds self.old.sink.now }
@@ -220,13 +220,13 @@ impl<'a, K: Sink> Watching<'a, K> {
         ensures sink_name { self.new.sink.ghost_name ≡ self.old.sink.ghost_name }
         ensures plan { self.new.plan.now ≡ self.old.plan.now }
         ensures steps { (history : History) → Knows self.old.plan.now.run.companion companion.now history
-            → Steps self.old.plan.now (notes.Turn reading) history self.old.progress self.new.progress
+            → Steps self.old.plan.now (notes.Turn reading) history self.old.progress.now self.new.progress.now
             self.old.agree.now self.new.agree.now self.new.over self.new.parting (K.holds self.old.sink.now)
             (K.holds self.new.sink.now) (K.faults self.old.sink.now) (K.faults self.new.sink.now) }
     {
-        let text = turn_text(self.alloc, self.plan, reading, companion, &self.progress);
+        let text = turn_text(self.alloc, self.plan, reading, companion, self.progress);
         let late = late(self.plan, reading, &self.progress.begun);
-        let parting = late.or(closed_before(self.plan, reading, &self.progress));
+        let parting = late.or(closed_before(self.plan, reading, self.progress));
         let due = report_due(self.plan, reading, &self.progress.begun, companion);
         self.progress.after_turn(reading, &due);
         self.say(text, parting);
@@ -238,13 +238,13 @@ impl<'a, K: Sink> Watching<'a, K> {
         ensures sink_name { self.new.sink.ghost_name ≡ self.old.sink.ghost_name }
         ensures plan { self.new.plan.now ≡ self.old.plan.now }
         ensures steps { (history : History) → Knows self.old.plan.now.run.companion companion.now history
-            → Steps self.old.plan.now (notes.Landed reading bytes.now) history self.old.progress self.new.progress
+            → Steps self.old.plan.now (notes.Landed reading bytes.now) history self.old.progress.now self.new.progress.now
             self.old.agree.now self.new.agree.now self.new.over self.new.parting (K.holds self.old.sink.now)
             (K.holds self.new.sink.now) (K.faults self.old.sink.now) (K.faults self.new.sink.now) }
     {
         let judged = companion.judge(bytes, reading);
         let local = &self.plan.run.companion.local;
-        let text = landing_text(self.alloc, local, reading, bytes, &judged, &self.progress);
+        let text = landing_text(self.alloc, local, reading, bytes, &judged, self.progress);
         self.progress.after_landing(&judged);
         match accept(self.agree, &judged, reading) {
             Ok(parting) => self.say(text, parting),
@@ -257,7 +257,7 @@ impl<'a, K: Sink> Watching<'a, K> {
         ensures sink_name { self.new.sink.ghost_name ≡ self.old.sink.ghost_name }
         ensures plan { self.new.plan.now ≡ self.old.plan.now }
         ensures steps { (history : History) → Knows self.old.plan.now.run.companion companion.now history
-            → Steps self.old.plan.now (notes.Heard session text.now) history self.old.progress self.new.progress
+            → Steps self.old.plan.now (notes.Heard session text.now) history self.old.progress.now self.new.progress.now
             self.old.agree.now self.new.agree.now self.new.over self.new.parting (K.holds self.old.sink.now)
             (K.holds self.new.sink.now) (K.faults self.old.sink.now) (K.faults self.new.sink.now) }
     {
@@ -280,8 +280,8 @@ impl<K: Sink> Observes for Watching<'_, K> {
 
     ghost saw = { λ started now notes. (now.sink.ghost_name ≡ started.sink.ghost_name)
         × (now.plan.now ≡ started.plan.now)
-        × (AreFrom started.plan.now.run notes → IsTelling started.plan.now started.progress now.over now.parting
-        now.progress now.agree.now (K.holds started.sink.now) (K.holds now.sink.now) (K.faults started.sink.now)
+        × (AreFrom started.plan.now.run notes → IsTelling started.plan.now started.progress.now now.over now.parting
+        now.progress.now now.agree.now (K.holds started.sink.now) (K.holds now.sink.now) (K.faults started.sink.now)
         (K.faults now.sink.now) notes) };
 
     ghost over = { λ watching. watching.over };
@@ -294,7 +294,7 @@ impl<K: Sink> Observes for Watching<'_, K> {
     }
 
     fn slept(&mut self) {
-        wake(self.alloc, self.plan, true, &mut self.progress, self.agree);
+        wake(self.alloc, self.plan, true, self.progress, self.agree);
     }
 
     fn turned(&mut self, clocked: &Clocked, companion: &Companion) {
@@ -302,7 +302,7 @@ impl<K: Sink> Observes for Watching<'_, K> {
             self.alloc,
             self.plan,
             clocked.slept,
-            &mut self.progress,
+            self.progress,
             self.agree,
         );
         self.turn(clocked.reading, companion);
@@ -319,20 +319,20 @@ impl<K: Sink> Observes for Watching<'_, K> {
             self.alloc,
             self.plan,
             clocked.slept,
-            &mut self.progress,
+            self.progress,
             self.agree,
         );
         self.turn(clocked.reading, companion);
     }
 
     fn dialled(&mut self, kind: Kind, tried: Result<u32, Failure>) {
-        let text = dial_text(self.alloc, kind, tried, &self.progress);
+        let text = dial_text(self.alloc, kind, tried, self.progress);
         self.progress.after_dial(kind, tried);
         self.say(text, None);
     }
 
     fn asked(&mut self, reading: u64) {
-        let text = slept_text(self.alloc, reading, &self.progress);
+        let text = slept_text(self.alloc, reading, self.progress);
         self.progress.after_request();
         self.say(text, None);
     }
@@ -342,7 +342,7 @@ impl<K: Sink> Observes for Watching<'_, K> {
             self.alloc,
             self.plan,
             clocked.slept,
-            &mut self.progress,
+            self.progress,
             self.agree,
         );
         self.land(clocked.reading, bytes, companion);

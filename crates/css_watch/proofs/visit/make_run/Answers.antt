@@ -10,6 +10,6 @@ returns-clause-run g c =
     c.drive_watching.new.outside) (g.O.Outside.counts c.drive_watching.new.outside) (g.K.Sink.holds
     c.drive_watching.new.watching.sink.now) (g.K.Sink.faults c.drive_watching.new.watching.sink.now))
     c.drive_watching.result.ended c.drive_watching.result.parting c.drive_watching.result.progress =
-    c.drive_watching.ensures.run c.args.begun (c.fresh.ensures ∙ ap fresh c.with_visit.ensures)
+    c.drive_watching.ensures.run c.args.begun (c.fresh-progress.ensures ∙ ap fresh c.with_visit.ensures)
     in
     search rules

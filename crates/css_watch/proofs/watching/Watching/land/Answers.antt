@@ -6,13 +6,13 @@ use Rattle.css_watch.proofs.watching.Watching.land.Goals as goal
 pub returns-in-Ok-clause-steps : goal.returns-in-Ok-clause-steps
 returns-in-Ok-clause-steps g c history k answers of =
     landing.step_of c.args.self.now.plan.now c.args.reading c.args.bytes.now history c.args.companion.now answers
-    c.args.self.now.progress _ c.args.self.now.agree.now _ _ _ _ _ _ _ c.judge-judged.result c.landing_text-text.result
+    c.args.self.now.progress.now _ c.args.self.now.agree.now _ _ _ _ _ _ _ c.judge-judged.result c.landing_text-text.result
     c.in-Ok.parting c.accept.new.agree k of (c.judge-judged.ensures Both) c.landing_text-text.ensures c.in-Ok.ensures
     (c.say.ensures.progress ∙ c.after_landing.ensures) c.say.ensures.agree c.say.ensures.said
 
 pub returns-in-Err-clause-steps : goal.returns-in-Err-clause-steps
 returns-in-Err-clause-steps g c history k answers of =
     landing.failed_of c.args.self.now.plan.now c.args.reading c.args.bytes.now history c.args.companion.now answers
-    c.args.self.now.progress _ _ _ _ _ _ _ _ c.judge-judged.result k (c.judge-judged.ensures Both)
+    c.args.self.now.progress.now _ _ _ _ _ _ _ _ c.judge-judged.result k (c.judge-judged.ensures Both)
     (c.fail.ensures.progress ∙ c.after_landing.ensures) c.fail.ensures.over c.fail.ensures.parting
     c.fail.ensures.holds c.fail.ensures.faults

@@ -9,7 +9,7 @@ pub returns : goal.returns
 returns g c from started older on s = (
   c.say.ensures.sink_name ∙ s.0,
   c.say.ensures.plan ∙ s.1,
-  telling.told_on started.plan.now started.progress from (notes.Asked c.args.reading) older _ _ _ _ _ _ _ _ _
+  telling.told_on started.plan.now started.progress.now from (notes.Asked c.args.reading) older _ _ _ _ _ _ _ _ _
       _ _ _ _ _ on s.2
       (λ e answers of. let P : Kept → Type 0 = λ x. IsOf started.plan.now x answers in record {
         says = c.say.ensures.said _ c.slept_text-text.ensures;
