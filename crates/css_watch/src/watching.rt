@@ -238,9 +238,10 @@ impl<'a, K: Sink> Watching<'a, K> {
         ensures sink_name { self.new.sink.ghost_name ≡ self.old.sink.ghost_name }
         ensures plan { self.new.plan.now ≡ self.old.plan.now }
         ensures steps { (history : History) → Knows self.old.plan.now.run.companion companion.now history
-            → Steps self.old.plan.now (notes.Landed reading bytes.now) history self.old.progress.now self.new.progress.now
-            self.old.agree.now self.new.agree.now self.new.over self.new.parting (K.holds self.old.sink.now)
-            (K.holds self.new.sink.now) (K.faults self.old.sink.now) (K.faults self.new.sink.now) }
+            → Steps self.old.plan.now (notes.Landed reading bytes.now) history self.old.progress.now
+            self.new.progress.now self.old.agree.now self.new.agree.now self.new.over self.new.parting
+            (K.holds self.old.sink.now) (K.holds self.new.sink.now) (K.faults self.old.sink.now)
+            (K.faults self.new.sink.now) }
     {
         let judged = companion.judge(bytes, reading);
         let local = &self.plan.run.companion.local;

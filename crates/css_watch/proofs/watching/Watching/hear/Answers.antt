@@ -1,4 +1,4 @@
-use Rattle.std.proofs.Common.{◌∙◌, ap, sym, subst, List, ℕ, None, Some, Option}
+use Rattle.std.proofs.Common.{◌∙◌, ap, sym, subst, List, ℕ, Some, Option}
 use Rattle.css_agree.specs.Keeping.{Kept}
 use Rattle.css_outside.specs.Bytes.{AppendsPrefix}
 use Rattle.css_outside.specs.declared.fault.OutFault.TheVariants as fault
@@ -14,8 +14,8 @@ pub returns-in-Ts-clause-steps : goal.returns-in-Ts-clause-steps
 returns-in-Ts-clause-steps g c history k answers of =
     let P : Kept → Type 0 = λ x. IsOf c.args.self.now.plan.now x answers in record {
       says = c.say.ensures.said _ (c.heard_text-line.ensures history k.stands);
-      progress_so = λ none. c.say.ensures.progress ∙ ap (λ x. after_text x c.args.text.now history c.args.self.now.progress.now)
-          (sym c.in-Ts.is);
+      progress_so = λ none. c.say.ensures.progress
+          ∙ ap (λ x. after_text x c.args.text.now history c.args.self.now.progress.now) (sym c.in-Ts.is);
       agree_so = λ none. subst P (sym c.say.ensures.agree) of;
     }
 

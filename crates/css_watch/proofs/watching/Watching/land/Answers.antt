@@ -6,8 +6,9 @@ use Rattle.css_watch.proofs.watching.Watching.land.Goals as goal
 pub returns-in-Ok-clause-steps : goal.returns-in-Ok-clause-steps
 returns-in-Ok-clause-steps g c history k answers of =
     landing.step_of c.args.self.now.plan.now c.args.reading c.args.bytes.now history c.args.companion.now answers
-    c.args.self.now.progress.now _ c.args.self.now.agree.now _ _ _ _ _ _ _ c.judge-judged.result c.landing_text-text.result
-    c.in-Ok.parting c.accept.new.agree k of (c.judge-judged.ensures Both) c.landing_text-text.ensures c.in-Ok.ensures
+    c.args.self.now.progress.now _ c.args.self.now.agree.now _ _ _ _ _ _ _ c.judge-judged.result
+    c.landing_text-text.result c.in-Ok.parting c.accept.new.agree k of (c.judge-judged.ensures Both)
+    c.landing_text-text.ensures c.in-Ok.ensures
     (c.say.ensures.progress ∙ c.after_landing.ensures) c.say.ensures.agree c.say.ensures.said
 
 pub returns-in-Err-clause-steps : goal.returns-in-Err-clause-steps

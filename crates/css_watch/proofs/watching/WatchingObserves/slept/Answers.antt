@@ -8,8 +8,8 @@ pub returns : goal.returns
 returns g c from started older on s = (
   s.0,
   s.1,
-  λ a. let P : Plan → Type 0 = λ x. Wakes x true c.args.self.now.progress.now c.wake.new.progress c.args.self.now.agree.now
-      c.wake.new.agree in
+  λ a. let P : Plan → Type 0 = λ x. Wakes x true c.args.self.now.progress.now c.wake.new.progress
+      c.args.self.now.agree.now c.wake.new.agree in
       telling.slept_on started.plan.now started.progress.now from older _ _ _ _ _ _ _ _ _ _ on (s.2 a.1)
       (subst P s.1 c.wake.ensures),
 )
