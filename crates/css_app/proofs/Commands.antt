@@ -1,6 +1,6 @@
 -- What a command took and did, by the words of its command line, and what its end is as a status.
 use Rattle.std.proofs.Common.{◌≡◌, ◌∙◌, ℕ, ◌+◌, ◌<◌, ◌≤◌, ℤ, pos, List, [], ◌∷◌, ◌++◌, length, ap, refl, sym, subst}
-use Rattle.std.proofs.Common.{arith, rules, append_assoc, append-nil, inl, inr}
+use Rattle.std.proofs.Common.{arith, rules, append_assoc, append-nil, inl, inr, true, false}
 use Rattle.std.specs.Prelude.{◌⊎◌, ◌≢◌, Option, Some, None, Result, Ok, Err, OnOk, All, ⊤}
 use Rattle.std.specs.Io.KnownBytes.{IsAtEnd}
 use Rattle.std.specs.List.{flat_map}

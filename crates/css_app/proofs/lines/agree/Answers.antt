@@ -13,7 +13,7 @@ pub returns-in-Ok-clause-does : goal.returns-in-Ok-clause-does
 returns-in-Ok-clause-does g c =
     record { lines = read_all c.in-Ok.ensures.ran; promise = promised_done _ _ _ _ _ c.in-Ok.ensures.done }
 
-pub of_line : (line : ℕ) (why : Refusal Cause) → IsOfLine (agree_refused line why)
+of_line : (line : ℕ) (why : Refusal Cause) → IsOfLine (agree_refused line why)
 of_line line why = grind (arith, common_steps)
 
 pub returns : goal.returns

@@ -1,14 +1,20 @@
 -- What a run over answers that names two of them adds to the sink keeps the promise, however it ends.
+use Rattle.std.proofs.Common.{ℕ, arith}
+use Rattle.std.proofs.lemmas.Grind.{common_steps}
+use Rattle.css_lines.specs.declared.reader.Refusal.{Refusal}
+use Rattle.css_agree.specs.declared.reader.Cause.{Cause}
 use Rattle.css_agree.proofs.Promise.{named_done, named_stop}
-use Rattle.css_status.proofs.OverLines.{read_all, stop_ends, stopped}
+use Rattle.css_status.proofs.OverLines.{IsOfLine, read_all, stop_ends, stopped}
 use Rattle.css_app.specs.Ended.{agree_refused}
 use Rattle.css_app.proofs.Commands.{tells_lines}
-use Rattle.css_app.proofs.lines.agree.Answers.{of_line}
 use Rattle.css_app.proofs.lines.agree_pairs.Goals as goal
 
 pub returns-in-Ok-clause-does : goal.returns-in-Ok-clause-does
 returns-in-Ok-clause-does g c =
     record { lines = read_all c.in-Ok.ensures.ran; promise = named_done _ _ _ _ _ c.in-Ok.ensures.done }
+
+of_line : (line : ℕ) (why : Refusal Cause) → IsOfLine (agree_refused line why)
+of_line line why = grind (arith, common_steps)
 
 pub returns : goal.returns
 returns g c =

@@ -55,11 +55,11 @@ returns-in-Replay-clause-counted g c = record {
   spawns = c.replay.ensures.quiet.spawns _;
 }
 
-pub returns-in-Agree-clause-counted : goal.returns-in-Agree-clause-counted
-returns-in-Agree-clause-counted g c = c.agree.ensures.counted _ _
+pub returns-in-Agree-false-clause-counted : goal.returns-in-Agree-false-clause-counted
+returns-in-Agree-false-clause-counted g c = c.agree.ensures.counted _ _
 
-pub returns-in-Agree-1-clause-counted : goal.returns-in-Agree-1-clause-counted
-returns-in-Agree-1-clause-counted g c = c.agree_pairs.ensures.counted _ _
+pub returns-in-Agree-true-clause-counted : goal.returns-in-Agree-true-clause-counted
+returns-in-Agree-true-clause-counted g c = c.agree_pairs.ensures.counted _ _
 
 pub returns-in-Audit-clause-counted : goal.returns-in-Audit-clause-counted
 returns-in-Audit-clause-counted g c = c.audit.ensures.counted _ _
