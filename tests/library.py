@@ -281,7 +281,7 @@ class Suite:
                               check=True).stdout
         self.check("they tell the same as on this machine", told == here and here, here.strip())
         follow = self.built([EXAMPLES / "follow" / "follow.c", EXAMPLES / "follow" / "session.c"], **on_arm)
-        self.with_television(css, self.port + 4, f"{REPORTS} reports, on ARM",
+        self.with_television(css, self.port + 6, f"{REPORTS} reports, on ARM",
                              lambda url: [*EMULATED, follow, url, *WORDS])
         self.rust_on_arm(library)
 
