@@ -162,7 +162,7 @@ def texts(tv, relay, session):
 
 def ended(tv, relay):
     relay.refuse()
-    tv.say_many("CII", LONG, 0, 1)
+    tv.programme()  # A relay that a busy machine made dial again is told it then.
     told = relay.child.communicate()[1]
     check("without memory a relay ends", relay.child.returncode == 14 and told == b"css: memory\n", told.decode().strip())
     taken = relay.counts()[1]
