@@ -100,6 +100,10 @@ impl Outside for MemoryOutside {
         Ok(self.devices.now(why)?)
     }
 
+    fn rest(&mut self, _until: u64)
+        ensures { self.new ≡ self.old }
+    {}
+
     fn dial(&mut self, kind: Kind, to: &Address) -> Result<u32, OutFault>
         ensures told { TellsDial (Some self.old.devices.told) (Some self.new.devices.told) kind to.now result }
         ensures counted { CountsDial (counts_of self.old) (counts_of self.new) result }

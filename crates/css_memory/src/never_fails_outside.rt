@@ -68,6 +68,10 @@ impl Outside for NeverFailsOutside {
         Ok(self.devices.now(why)?)
     }
 
+    fn rest(&mut self, _until: u64)
+        ensures { self.new ≡ self.old }
+    {}
+
     fn dial(&mut self, kind: Kind, to: &Address) -> Result<u32, OutFault>
         ensures told { TellsDial (Some self.old.told) (Some self.new.told) kind to.now result }
         ensures counted { CountsDial (counts_at self.old) (counts_at self.new) result }

@@ -87,6 +87,8 @@ impl<R: NetRuntime> Outside for NetOutside<R> {
         }
     }
 
+    fn rest(&mut self, _until: u64) {}
+
     fn dial(&mut self, kind: Kind, to: &Address) -> Result<u32, OutFault> {
         let Some(peer) = self.tally.next_peer() else {
             return self.tally.not_dialled(OutFault::Failed(Failure::Other));

@@ -22,6 +22,14 @@ impl Limit {
         }
     }
 
+    /// The least reading of a turn that is the last by its time, where the first one began at `first`.
+    pub fn last_from(self, first: u64) -> u64 {
+        match self {
+            Limit::Turns(_) => u64::MAX,
+            Limit::Seconds(seconds) => first.saturating_add(seconds.saturating_mul(1_000_000_000)),
+        }
+    }
+
     /// Whether a turn that begins at this reading is the last by its time, where the first one began at `first`.
     pub fn is_over(self, first: u64, reading: u64) -> bool
         requires limit { limits.IsLimit self }

@@ -1,4 +1,4 @@
-ghost use Rattle.std.specs.Prelude.{Option, IfOk, [], ◌∷◌};
+ghost use Rattle.std.specs.Prelude.{◌≡◌, Option, IfOk, [], ◌∷◌};
 ghost use Rattle.css_model.specs.History.{History, Listening, Sent, HungUp};
 ghost use Rattle.css_outside.specs.Outsides.{Counts, Tells, TellsDial, CountsPlain, CountsClock};
 ghost use Rattle.css_outside.specs.Outsides.{CountsDial, CountsOpening, FitsRoom};
@@ -30,6 +30,12 @@ pub trait Outside {
     fn now(&mut self, why: Why) -> Result<Clocked, OutFault>
         ensures told { Tells (told self.old) (told self.new) result (calls.clock_entries why) }
         ensures counted { CountsClock (counts self.old) (counts self.new) result };
+
+    /// Says that nothing is due before this reading of the clock, so that the outside may pause until then, where nothing
+    /// comes. It promises no pause.
+    fn rest(&mut self, until: u64)
+        ensures told { told self.new ≡ told self.old }
+        ensures counted { counts self.new ≡ counts self.old };
 
     /// Opens a session of this kind, or the socket from which the wall clock is asked, and gives the peer's number.
     fn dial(&mut self, kind: Kind, to: &Address) -> Result<u32, OutFault>

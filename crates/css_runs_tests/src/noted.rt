@@ -73,6 +73,13 @@ impl Log {
         self.note(name, &[], b"")
     }
 
+    /// Notes how long nothing is due.
+    fn note_rest(&mut self, until: u64) -> Result<(), Memory> {
+        self.words.push(b"rest ")?;
+        self.words.push_number(i128::from(until))?;
+        self.words.push(b"\n")
+    }
+
     /// Notes the type of a datagram, and the last two bytes of its receive and its transmit value as numbers.
     fn note_datagram(&mut self, peer: u32, bytes: &[u8; 32]) -> Result<(), Memory> {
         let received = u32::from(bytes[22]) * 256 + u32::from(bytes[23]);
@@ -115,6 +122,12 @@ impl Outside for Noted {
     fn now(&mut self, why: Why) -> Result<Clocked, OutFault> {
         self.log.note_reading(why)?;
         self.outside.now(why)
+    }
+
+    fn rest(&mut self, until: u64) {
+        // Where memory is short the line is missing, and the call can't say so.
+        let _ = self.log.note_rest(until);
+        self.outside.rest(until);
     }
 
     fn dial(&mut self, kind: Kind, to: &Address) -> Result<u32, OutFault> {

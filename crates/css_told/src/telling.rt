@@ -68,6 +68,15 @@ impl<O: Outside> Outside for TellingOutside<O> {
         Ok(clocked)
     }
 
+    fn rest(&mut self, until: u64)
+        ensures told { self.new.diary.history ≡ self.old.diary.history }
+        ensures counted { O.counts self.new.inner ≡ O.counts self.old.inner }
+        ensures inner { TellsAsNoted (O.told self.old.inner) (O.told self.new.inner)
+            self.old.diary.history self.new.diary.history }
+    {
+        self.inner.rest(until);
+    }
+
     fn dial(&mut self, kind: Kind, to: &Address) -> Result<u32, OutFault>
         ensures told { TellsDial (Some self.old.diary.history) (Some self.new.diary.history) kind to.now result }
         ensures counted { CountsDial (O.counts self.old.inner) (O.counts self.new.inner) result }
