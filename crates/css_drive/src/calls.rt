@@ -13,7 +13,7 @@ use css_address::{AddressFault, address};
 use css_cii::CiiName;
 use css_companion::CompanionFault;
 use css_num::Text;
-use css_outside::{Address, Failure, Heard, Kind, OutFault, Outside, Wrote};
+use css_outside::{Address, Failure, Heard, Kind, Limit, OutFault, Outside, Wrote};
 use std::alloc::Global;
 
 /// How a run ends with a fault of the outside, of an observer that isn't over.
@@ -80,6 +80,18 @@ pub fn dial<O: Outside>(
         Ok(peer) => Ok(Ok(peer)),
         Err(OutFault::Failed(failure)) => Ok(Err(failure)),
         Err(OutFault::Memory) => Err(Driven::Memory),
+    }
+}
+
+/// Says that nothing is due before a reading, in a run by time.
+pub fn rest<O: Outside>(outside: &mut O, limit: Limit, until: u64)
+    ensures shown { shown (O.told outside.old) (O.counts outside.old)
+        ≡ shown (O.told outside.new) (O.counts outside.new) }
+    ensures counted { O.counts outside.new ≡ O.counts outside.old }
+{
+    match limit {
+        Limit::Turns(_) => {}
+        Limit::Seconds(_) => outside.rest(until),
     }
 }
 

@@ -9,7 +9,7 @@ ghost use Rattle.css_drive.specs.TvProgress.{IsRanged, IsOneMore, goes_on};
 ghost use Rattle.css_drive.specs.TvRan.{TvRan, CountsTvRun};
 ghost use Rattle.css_drive.specs.TvStanding.{From, Stops, Comes, Leads, IsReady, at_end};
 
-use crate::calls::end_of;
+use crate::calls::{end_of, rest};
 use crate::driven::Driven;
 use crate::turns::{OnAir, Turns};
 use crate::tv_calls::{hang_up_all, hear_all, serve, welcome};
@@ -19,6 +19,18 @@ use css_outside::Outside;
 use css_schedule::ScriptLine;
 use css_tv::Tv;
 use std::alloc::Global;
+
+/// The least reading at which something is due by the clock: the next line of the script, or the last turn.
+fn next_due(air: &OnAir, script: &[ScriptLine]) -> u64
+    requires { IsRanged air.now.turns }
+{
+    let turns = air.turns;
+    let last = turns.limit.last_from(turns.first);
+    match script.get(air.lines) {
+        Some(line) => last.min(turns.since().saturating_add(line.due)),
+        None => last,
+    }
+}
 
 /// Makes a turn. One that is the last by its time has no calls after those of its lines.
 fn turn<O: Outside>(
@@ -40,6 +52,7 @@ fn turn<O: Outside>(
     if air.turns.is_over() {
         return Ok(());
     }
+    rest(outside, air.turns.limit, next_due(air, script));
     serve(&mut air.tv, outside)?;
     welcome(alloc, &mut air.tv, outside)?;
     hear_all(alloc, &mut air.tv, outside)

@@ -78,11 +78,14 @@ pub const SCRIPTS: &[Row] = &[
 #[rattlefmt::skip]
 pub const LIMITS: &[Row] = &[
     Row { name: "a second", seconds: 1, times: &[5, 999_999_999, 1_000_000_005],
-        told: "LISTEN; turn; take; accept; turn; take; accept; turn", ..QUIET },
+        told: "LISTEN; turn; rest 1000000005; take; accept; turn; rest 1000000005; take; accept; turn", ..QUIET },
+    Row { name: "a line before the last turn", seconds: 1, relative: true,
+        script: "0 programme dvb://1\n300 change 1", times: &[5, 400, 1_000_000_005],
+        told: "LISTEN; turn; rest 305; take; accept; turn; rest 1000000005; take; accept; turn", ..QUIET },
     Row { name: "a line in the last turn", seconds: 1, script: "0 programme dvb://1\n1000000005 change 1",
         times: &[5, 999_999_999, 1_000_000_005], openings: &[Some(Kind::Cii)],
-        told: "LISTEN; turn; take; accept; say 1 DARK; text 1; turn; take; accept; text 1; \
-            turn; say 1 SHOWN; hang 1", ..QUIET },
+        told: "LISTEN; turn; rest 1000000005; take; accept; say 1 DARK; text 1; \
+            turn; rest 1000000005; take; accept; text 1; turn; say 1 SHOWN; hang 1", ..QUIET },
 ];
 
 #[rattlefmt::skip]
