@@ -10,13 +10,14 @@ ghost use Rattle.css_drive.specs.CompanionStanding.{Stays, IsEarly, Made, HasTri
 ghost use Rattle.css_drive.specs.CompanionStanding as standing;
 ghost use Rattle.css_drive.specs.Ends.{CountsNetFault, CountsDialFaults};
 
+use crate::calls::rest;
 use crate::companion_calls::ended_by;
 use crate::companion_live::{Live, Run};
 use crate::config::DriveConfig;
 use crate::driven::Driven;
 use crate::observes::Observes;
 use crate::session::Session;
-use crate::timing::{goes_on, is_late};
+use crate::timing::{goes_on, is_late, next_due};
 use css_companion::{Binding, Companion};
 use css_outside::{Outside, Why};
 use std::alloc::Global;
@@ -30,6 +31,12 @@ fn reports_at(every: u64, reading: u64, first: Option<u64>, reported: u64) -> bo
         None => false,
         Some(first) => first <= reading && (reported + 1) * every <= reading - first,
     }
+}
+
+/// The least reading at which a report is due.
+fn next_report(live: &Live, every: u64) -> u64 {
+    let next = live.reported.saturating_add(1).saturating_mul(every);
+    live.first.unwrap_or(0).saturating_add(next)
 }
 
 /// Whether another turn follows.
@@ -98,6 +105,14 @@ impl<O: Outside, W: Observes> Run<'_, O, W> {
         Ok(())
     }
 
+    /// The least reading at which something is due by the clock.
+    fn next_due(&self, config: &DriveConfig) -> u64 {
+        let seen = self.observer.next_due(self.live.turn.unwrap_or(0));
+        let report = next_report(self.live, config.report_every);
+        let request = next_due(self.live, config.limit, config.ask_every);
+        seen.min(report).min(request)
+    }
+
     /// Makes the calls of a turn after its report.
     fn calls(&mut self, config: &DriveConfig) -> Result<(), Driven>
         requires floor { self.old.companion.now.client.floor ≤ (O.counts self.old.outside.now).last }
@@ -111,6 +126,8 @@ impl<O: Outside, W: Observes> Run<'_, O, W> {
         self.dial_wc()?;
         self.dial_ts(config)?;
         self.ask(config.ask_every)?;
+        let until = self.next_due(config);
+        rest(self.outside, config.limit, until);
         self.take()?;
         self.hear(Session::Cii, Binding::Both)?;
         self.hear(Session::Ts, Binding::Both)?;

@@ -31,6 +31,9 @@ pub trait Observes {
     fn check(&self) -> Result<(), OutFault>
         ensures { MatchResult result (λ _. over self.now ≡ None) (λ fault. over self.now ≡ Some fault) };
 
+    /// The least reading at which it has something to tell by the clock alone, after a turn of this reading.
+    fn next_due(&self, turn: u64) -> u64;
+
     /// The machine slept.
     fn slept(&mut self)
         ensures { (from : Standpoint) → Sees saw over self.old self.new (Happened from notes.Slept ∷ []) };
@@ -88,6 +91,10 @@ impl Observes for () {
 
     fn check(&self) -> Result<(), OutFault> {
         Ok(())
+    }
+
+    fn next_due(&self, _turn: u64) -> u64 {
+        u64::MAX
     }
 
     fn slept(&mut self) {}

@@ -58,6 +58,10 @@ impl<K: Sink, F: Listens> Observes for Telling<'_, K, F> {
         }
     }
 
+    fn next_due(&self, _turn: u64) -> u64 {
+        u64::MAX
+    }
+
     fn slept(&mut self) {}
 
     fn turned(&mut self, _clocked: &Clocked, _companion: &Companion) {}

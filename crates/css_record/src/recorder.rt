@@ -114,6 +114,10 @@ impl<K: Sink> Observes for Recorder<'_, K> {
         self.written
     }
 
+    fn next_due(&self, _turn: u64) -> u64 {
+        u64::MAX
+    }
+
     fn slept(&mut self) {
         self.write(line_of(self.alloc, false, RecordLine::Slept));
     }

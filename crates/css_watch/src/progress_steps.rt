@@ -72,6 +72,22 @@ pub(crate) fn reports_now(plan: &Plan, reading: u64, begun: &Begun) -> bool
     }
 }
 
+/// How long a visit goes on at least after CSS-TS closed, in nanoseconds.
+const GRACE: u64 = 4_000_000;
+
+/// The least reading at which a turn has something to tell by the clock, after a turn of this reading: the next report,
+/// the watch's last turn, or the end of a visit whose CSS-TS has closed.
+pub(crate) fn next_due(plan: &Plan, progress: &Progress, turn: u64) -> u64 {
+    if progress.ts_closed {
+        return turn.saturating_add(GRACE);
+    }
+    let begun = &progress.begun;
+    let first = begun.first.unwrap_or(turn);
+    let report = due_from(first, begun.reports, plan.report_every);
+    let report = u64::try_from(report).unwrap_or(u64::MAX);
+    report.min(plan.run.limit.last_from(first))
+}
+
 impl Begun {
     /// Nothing was begun.
     pub(crate) fn new() -> Begun

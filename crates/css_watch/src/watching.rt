@@ -21,7 +21,7 @@ use crate::event_lines::{
 };
 use crate::plan::Plan;
 use crate::progress::{Begun, Progress};
-use crate::progress_steps::is_over;
+use crate::progress_steps::{is_over, next_due};
 use css_agree::{Agree, AgreeFault};
 use css_client::Landing;
 use css_companion::{Companion, Report};
@@ -292,6 +292,10 @@ impl<K: Sink> Observes for Watching<'_, K> {
             None => Ok(()),
             Some(fault) => Err(fault),
         }
+    }
+
+    fn next_due(&self, turn: u64) -> u64 {
+        next_due(self.plan, self.progress, turn)
     }
 
     fn slept(&mut self) {
