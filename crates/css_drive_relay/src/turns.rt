@@ -14,7 +14,8 @@ use crate::sessions::{Visit, hear_television, visit_all, welcome};
 use crate::stages::{read, serve};
 use crate::television::dial_and_ask;
 use css_drive::Driven;
-use css_drive::timing::{goes_on, is_late};
+use css_drive::calls::rest;
+use css_drive::timing::{goes_on, is_late, next_due};
 use css_outside::{Outside, Why};
 
 /// Makes the calls of a turn: to the television, to further companions, and what it hears of all of them. The turn ends
@@ -34,6 +35,8 @@ fn calls<O: Outside>(plan: &Plan, live: &mut Live, outside: &mut O) -> Result<()
         &plan.run.cii,
         plan.run.ask_every,
     )?;
+    let until = next_due(&live.own, plan.run.limit, plan.run.ask_every);
+    rest(outside, plan.run.limit, until);
     let served = serve(live, outside)?;
     if !served {
         return Ok(());

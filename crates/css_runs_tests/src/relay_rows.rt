@@ -69,10 +69,12 @@ pub const CALLS: &[Row] = &[
         told: "SERVE; turn; dial; take; accept; turn; dial; take; accept", ..QUIET },
     Row { name: "no call but the hang-up follows the reading of the last turn by time", seconds: 1,
         times: &[5, 999_999_999, 1_000_000_005],
-        told: "SERVE; turn; dial; take; accept; text 1; turn; take; accept; text 1; turn; hang 1", ..QUIET },
+        told: "SERVE; turn; dial; rest 1000000005; take; accept; text 1; turn; rest 1000000005; take; accept; text 1; \
+            turn; hang 1", ..QUIET },
     Row { name: "every dial fails for a second", seconds: 1, times: &[5, 999_999_999, 1_000_000_005], fails: &[3, 7],
         ended: "Unreachable { turns: 3 }",
-        told: "SERVE; turn; dial; take; accept; turn; dial; take; accept; turn", ..QUIET },
+        told: "SERVE; turn; dial; rest 1000000005; take; accept; turn; dial; rest 1000000005; take; accept; turn",
+        ..QUIET },
     Row { name: "a dial that failed is made again", turns: 2, fails: &[3],
         told: "SERVE; turn; dial; take; accept; turn; dial; take; accept; text 1; hang 1", ..QUIET },
 ];
@@ -183,7 +185,8 @@ pub const VISITS: &[Row] = &[
         ended: "NetFault", told: "SERVE; turn; dial; take; accept; text 1; hang 1", ..QUIET },
     Row { name: "the seconds of all visits count from the first turn", seconds: 1,
         times: &[5, 999_999_999, 1_000_000_005], texts: &[(1, CLOSED)],
-        told: "SERVE; turn; dial; take; accept; text 1; turn; dial; take; accept; text 2; turn; hang 2", ..QUIET },
+        told: "SERVE; turn; dial; rest 1000000005; take; accept; text 1; \
+            turn; dial; rest 1000000005; take; accept; text 2; turn; hang 2", ..QUIET },
     Row { name: "a visit that reached nobody follows one that did", turns: 2, texts: &[(1, CLOSED)], fails: &[8],
         told: "SERVE; turn; dial; take; accept; text 1; turn; dial; take; accept", ..QUIET },
 ];
