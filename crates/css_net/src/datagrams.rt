@@ -19,6 +19,8 @@ use std::time::{Clock, Duration};
 const LISTENER: usize = 0;
 /// The name under which the link's socket is watched.
 const LINK: usize = 1;
+/// The name under which both are watched among all sockets.
+const DATAGRAMS: usize = 4;
 /// How many datagrams that nobody can answer, and errors of earlier ones, are passed over at once.
 const MOST_PASSED: usize = 16;
 /// How many addresses of one host are used.
@@ -176,7 +178,7 @@ impl Link {
 #[derive(Drop)]
 pub(crate) struct Datagrams {
     alloc: Global,
-    /// Waits for these sockets alone, so that nothing on a session ends a pause.
+    /// Waits for these sockets alone: nothing on a session ends a pause of a run by turns.
     watch: Watch,
     listener: Option<Listener>,
     link: Option<Link>,
@@ -196,9 +198,15 @@ impl Datagrams {
     }
 
     /// A socket that listens at an address. It is heard once it is handed to `listen`.
-    pub(crate) fn listener<R: Net>(&mut self, rt: &R, address: SocketAddr) -> io::Result<Listener> {
+    pub(crate) fn listener<R: Net>(
+        &mut self,
+        rt: &R,
+        all: &mut Watch,
+        address: SocketAddr,
+    ) -> io::Result<Listener> {
         let socket = UdpSocket::bind(rt, address)?;
         let socket = self.watch.add_reader(rt, socket, LISTENER)?;
+        let socket = all.add_reader(rt, socket, DATAGRAMS)?;
         Ok(Listener {
             socket,
             senders: Senders::new(),
@@ -211,9 +219,15 @@ impl Datagrams {
     }
 
     /// A socket for the datagrams of one address.
-    fn linked<R: Net>(&mut self, rt: &R, address: SocketAddr) -> io::Result<UdpSocket> {
+    fn linked<R: Net>(
+        &mut self,
+        rt: &R,
+        all: &mut Watch,
+        address: SocketAddr,
+    ) -> io::Result<UdpSocket> {
         let socket = linked_socket(rt, address)?;
-        self.watch.add_reader(rt, socket, LINK)
+        let socket = self.watch.add_reader(rt, socket, LINK)?;
+        all.add_reader(rt, socket, DATAGRAMS)
     }
 
     /// Opens a socket for each of these addresses, in the place of the last such ones. It fails where none can be
@@ -221,13 +235,14 @@ impl Datagrams {
     fn link<R: Net>(
         &mut self,
         rt: &R,
+        all: &mut Watch,
         addresses: &[SocketAddr],
         peer: u32,
     ) -> Result<(), OutFault> {
         let mut sockets = Vec::new(self.alloc);
         let mut last = OutFault::Failed(Failure::NoSuchHost);
         for address in addresses.iter().take(MOST_ADDRESSES) {
-            match self.linked(rt, *address) {
+            match self.linked(rt, all, *address) {
                 Ok(socket) => sockets.push(socket).map_err(no_room)?,
                 Err(error) => last = fault_of(error),
             }
@@ -250,6 +265,7 @@ impl Datagrams {
     pub(crate) fn dial<R: Net + Clock>(
         &mut self,
         rt: &R,
+        all: &mut Watch,
         look_ups: &mut LookUps,
         to: &Address,
         reached: Option<IpAddr>,
@@ -266,8 +282,13 @@ impl Datagrams {
         {
             addresses.swap(0, place);
         }
-        self.link(rt, &addresses, peer)?;
+        self.link(rt, all, &addresses, peer)?;
         Ok(true)
+    }
+
+    /// From when the next dial may begin.
+    pub(crate) fn next_dial(&self) -> u64 {
+        self.pace.next()
     }
 
     /// Waits until a datagram comes, or the pause is over.

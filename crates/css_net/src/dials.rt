@@ -63,6 +63,8 @@ struct Call {
     /// How much of the request was written.
     written: usize,
     head: Head,
+    /// Whether its last turn ended because the stream gives or takes nothing for now.
+    waits: bool,
 }
 
 // One function drops its parts: what holds one needn't see them.
@@ -76,6 +78,7 @@ impl Drop for Call {
             request: _,
             written: _,
             head: _,
+            waits: _,
         } = self;
     }
 }
@@ -115,6 +118,7 @@ impl Call {
             request,
             written: 0,
             head: Head::new(alloc),
+            waits: false,
         })
     }
 
@@ -131,6 +135,7 @@ impl Call {
             }
             Err(error) => {
                 if would_wait(error.kind()) {
+                    self.waits = true;
                     Ok(Turn::Waits)
                 } else {
                     Err(fault_of(error))
@@ -145,7 +150,10 @@ impl Call {
         for _ in 0..READS {
             match self.head.read(&mut self.stream)? {
                 Progress::More => {}
-                Progress::Waits => return Ok(Turn::Waits),
+                Progress::Waits => {
+                    self.waits = true;
+                    return Ok(Turn::Waits);
+                }
                 Progress::Whole => {
                     check_answer(self.head.bytes(), &self.key)?;
                     return Ok(Turn::Opened);
@@ -168,6 +176,7 @@ impl Call {
 
     /// One turn, which may be its last. One that takes too long ends.
     fn turn(&mut self, now: u64) -> Result<Turn, DialFault> {
+        self.waits = false;
         if now.saturating_sub(self.since) >= LONGEST_HANDSHAKE {
             return Err(DialFault::failed(Failure::TimedOut));
         }
@@ -187,6 +196,7 @@ impl Call {
             request: _,
             written: _,
             head,
+            waits: _,
         } = self;
         Ok(Line::dialled(alloc, stream, masks, head.rest(alloc)?))
     }
@@ -285,6 +295,20 @@ impl Dial {
         Some(address.ip())
     }
 
+    /// Whether the next turn has something to do at once.
+    fn is_ready(&self) -> bool {
+        match &self.call {
+            Some(call) => !call.waits,
+            None => self.tried < self.addresses.len(),
+        }
+    }
+
+    /// When its handshake has taken too long, where one stands.
+    fn over_at(&self) -> Option<u64> {
+        let call = self.call.as_ref()?;
+        Some(call.since.saturating_add(LONGEST_HANDSHAKE))
+    }
+
     /// Whether it is to this address, and has something left to be tried.
     fn goes_on_to(&self, to: &Address) -> bool {
         let is_over = self.call.is_none() && self.tried >= self.addresses.len();
@@ -317,6 +341,23 @@ impl Caller {
     /// Where the last session was reached.
     pub(crate) fn reached(&self) -> Option<IpAddr> {
         self.reached
+    }
+
+    /// Whether the next turn of a dial has something to do at once.
+    pub(crate) fn is_ready(&self) -> bool {
+        match &self.dial {
+            Some(dial) => dial.is_ready(),
+            None => false,
+        }
+    }
+
+    /// When a dial has something to do, though nothing comes: its handshake has taken too long, or the next one begins.
+    pub(crate) fn next(&self) -> u64 {
+        let over_at = match &self.dial {
+            Some(dial) => dial.over_at(),
+            None => None,
+        };
+        over_at.unwrap_or(self.pace.next())
     }
 
     /// Whether a dial goes on to this address.

@@ -1,7 +1,8 @@
 //! The trusted edge: the system's sockets as an outside of `css_outside`, beside the devices of `css_devices`.
 //!
 //! It counts its faults, and tells nothing of what it holds. Nothing here waits for a peer: a loop that makes its calls
-//! in turn is held for 5 milliseconds at most where nothing comes, and a bounded time where much comes.
+//! in turn is held for 5 milliseconds at most where nothing comes, or as long as it told that nothing is due, and a
+//! bounded time where much comes.
 #![tactic(auto)]
 
 mod answers;
@@ -15,6 +16,7 @@ mod names;
 mod net_outside;
 mod pace;
 mod partings;
+mod rest;
 mod seen;
 mod session;
 mod sessions;

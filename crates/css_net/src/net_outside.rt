@@ -87,7 +87,9 @@ impl<R: NetRuntime> Outside for NetOutside<R> {
         }
     }
 
-    fn rest(&mut self, _until: u64) {}
+    fn rest(&mut self, until: u64) {
+        self.sockets.tell_rest(until);
+    }
 
     fn dial(&mut self, kind: Kind, to: &Address) -> Result<u32, OutFault> {
         let Some(peer) = self.tally.next_peer() else {

@@ -41,16 +41,17 @@ impl Pace {
         Pace { begun: None }
     }
 
-    fn rests(&self, now: u64) -> bool {
+    /// From when the next dial may begin.
+    pub(crate) fn next(&self) -> u64 {
         match self.begun {
-            Some(begun) => now.saturating_sub(begun) < BETWEEN_DIALS,
-            None => false,
+            Some(begun) => begun.saturating_add(BETWEEN_DIALS),
+            None => 0,
         }
     }
 
     /// Whether a dial may begin now. One that may counts as begun.
     pub(crate) fn begins(&mut self, now: u64) -> bool {
-        if self.rests(now) {
+        if now < self.next() {
             return false;
         }
         self.begun = Some(now);

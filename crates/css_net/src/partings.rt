@@ -80,6 +80,14 @@ impl Parting {
         }
     }
 
+    /// When there is something to do: at once, or once it has taken too long.
+    fn next(&self) -> u64 {
+        if self.named {
+            return 0;
+        }
+        self.since.saturating_add(LONGEST_PARTING)
+    }
+
     /// Something has come on the session that is watched under this name.
     fn name(&mut self, name: usize) {
         if self.name == name {
@@ -135,6 +143,15 @@ impl Partings {
     /// Whether none parts.
     pub(crate) fn is_empty(&self) -> bool {
         self.list.is_empty()
+    }
+
+    /// When there is something to do, though nothing comes.
+    pub(crate) fn next(&self) -> u64 {
+        let mut next = u64::MAX;
+        for parting in &self.list {
+            next = next.min(parting.next());
+        }
+        next
     }
 
     /// One turn of each, at this time.

@@ -55,6 +55,19 @@ impl Session {
         }
     }
 
+    /// When there is something to do at this session, though nothing comes: at once, or once it is silent for too long.
+    fn next(&self) -> u64 {
+        if self.named || self.over {
+            return 0;
+        }
+        let silence = if self.asked {
+            CLOSED_AFTER
+        } else {
+            ASKED_AFTER
+        };
+        self.heard.saturating_add(silence)
+    }
+
     /// Asks a silent peer whether it is there, and closes the session of one that doesn't answer.
     fn mind(&mut self, now: u64) {
         let silent = now.saturating_sub(self.heard);
@@ -151,6 +164,18 @@ impl Sessions {
             Some(session) => session.line.say(alloc, text),
             None => Ok(Wrote::Gone),
         }
+    }
+
+    /// When there is something to do at a session, though nothing comes: at once, or where silent peers are minded next.
+    pub(crate) fn next(&self) -> u64 {
+        let mut next = u64::MAX;
+        for session in &self.list {
+            next = next.min(session.next());
+        }
+        if next == 0 {
+            return 0;
+        }
+        next.max(self.minded.saturating_add(BETWEEN_LOOKS))
     }
 
     /// Minds silent peers, once a second.

@@ -10,6 +10,7 @@ use crate::metered::Metered;
 use crate::names::addresses_of;
 use crate::pace::{LookUps, PAUSE, left, time};
 use crate::partings::{LONGEST_PARTING, Partings};
+use crate::rest::{FINE, Rest, wait_of};
 use crate::session::Line;
 use crate::sessions::Sessions;
 use crate::upgrades::{FIRST_UPGRADE, Refusal, Service, Upgraded, Upgrades};
@@ -39,6 +40,7 @@ pub(crate) struct Sockets {
     stale: bool,
     /// Whether there was a pause in this turn, or a datagram came.
     paused: bool,
+    rest: Rest,
     datagrams: Datagrams,
     upgrades: Upgrades,
     dials: Dials,
@@ -62,6 +64,7 @@ impl Drop for Sockets {
             watch: _,
             stale: _,
             paused: _,
+            rest: _,
             datagrams: _,
             upgrades: _,
             dials: _,
@@ -82,6 +85,7 @@ impl Sockets {
             watch: Watch::new(alloc),
             stale: true,
             paused: true,
+            rest: Rest::new(),
             datagrams: Datagrams::new(alloc),
             upgrades: Upgrades::new(alloc),
             dials: Dials::new(alloc),
@@ -102,8 +106,10 @@ impl Sockets {
         self.partings.name(name);
         if name < FIRST_SESSION || name >= FIRST_UPGRADE {
             self.upgrades.name(name);
+            self.rest.came = true;
         } else if let Ok(peer) = u32::try_from(name - FIRST_SESSION) {
-            self.sessions.name(peer);
+            let is_open = self.sessions.name(peer);
+            self.rest.came = self.rest.came || is_open;
         }
     }
 
@@ -132,11 +138,65 @@ impl Sockets {
     /// can use turns up but by datagrams.
     pub(crate) fn begin_turn<C: Clock>(&mut self, rt: &C) -> Result<(), OutFault> {
         if !self.paused {
-            let begun = time(rt);
-            self.gather(rt, left(rt, begun))?;
-            thread::sleep(rt, left(rt, begun));
+            match self.rest.told(time(rt)) {
+                Some(until) => self.rest_until(rt, until)?,
+                None => self.pause(rt)?,
+            }
         }
         self.paused = false;
+        self.rest.begin_turn(time(rt));
+        Ok(())
+    }
+
+    /// Pauses, whatever comes.
+    fn pause<C: Clock>(&mut self, rt: &C) -> Result<(), OutFault> {
+        let begun = time(rt);
+        self.gather(rt, left(rt, begun))?;
+        thread::sleep(rt, left(rt, begun));
+        Ok(())
+    }
+
+    // ---- rests
+
+    /// Nothing is due before this reading, in the turn that was begun.
+    pub(crate) fn tell_rest(&mut self, until: u64) {
+        self.rest.tell(until);
+    }
+
+    /// When a dial has something to do that was asked for in this turn.
+    fn next_dial(&self) -> u64 {
+        let cii = self.rest.in_turn(self.dials.cii.next());
+        let ts = self.rest.in_turn(self.dials.ts.next());
+        let wc = self.rest.in_turn(self.datagrams.next_dial());
+        cii.min(ts).min(wc)
+    }
+
+    /// When a turn has something to do, though nothing comes.
+    fn next(&self, now: u64) -> u64 {
+        if self.rest.came {
+            return 0;
+        }
+        let handshakes = self.upgrades.next(now).min(self.next_dial());
+        self.sessions.next().min(handshakes)
+    }
+
+    /// Rests until something comes, or until this time. It may end early.
+    fn rest_until<C: Clock>(&mut self, rt: &C, until: u64) -> Result<(), OutFault> {
+        let begun = time(rt);
+        for _ in 0..MOST_CUTS {
+            let now = time(rt);
+            let until = until.min(self.next(now));
+            // What parts needs no turn.
+            let left = until.min(self.partings.next()).saturating_sub(now);
+            self.gather(rt, wait_of(left))?;
+            if until <= now || self.rest.came {
+                break;
+            }
+            if left > 0 && left <= FINE {
+                thread::sleep(rt, Duration::from_nanos(left));
+            }
+        }
+        self.rest.end(begun, time(rt));
         Ok(())
     }
 
@@ -155,7 +215,10 @@ impl Sockets {
         }
         let mut next = address;
         next.set_port(next_port);
-        let listener = self.datagrams.listener(rt, address).map_err(fault_of)?;
+        let listener = self
+            .datagrams
+            .listener(rt, &mut self.watch, address)
+            .map_err(fault_of)?;
         self.upgrades.listen(rt, &mut self.watch, address, next)?;
         self.datagrams.listen(listener);
         Ok(())
@@ -267,6 +330,7 @@ impl Sockets {
         }
         self.log.write(rt, Event::Opened(kind, peer, from));
         self.sessions.open(peer, line, true, now)?;
+        self.rest.came = true;
         Ok(true)
     }
 
@@ -303,8 +367,9 @@ impl Sockets {
         now: u64,
     ) -> Result<bool, DialFault> {
         let caller = self.dials.of(kind);
-        let line = caller.go_on(rt, &mut self.watch, &mut self.look_ups, to, now)?;
-        let Some(line) = line else {
+        let line = caller.go_on(rt, &mut self.watch, &mut self.look_ups, to, now);
+        self.rest.came = self.rest.came || caller.is_ready();
+        let Some(line) = line? else {
             return Ok(false);
         };
         let line = self.renamed(line, peer).map_err(fault_of)?;
@@ -325,7 +390,11 @@ impl Sockets {
             Kind::Wc => {
                 let reached = self.dials.cii.reached();
                 let look_ups = &mut self.look_ups;
-                Ok(self.datagrams.dial(rt, look_ups, to, reached, peer, now)?)
+                let all = &mut self.watch;
+                Ok(
+                    self.datagrams
+                        .dial(rt, all, look_ups, to, reached, peer, now)?,
+                )
             }
             Kind::Cii | Kind::Ts => self.call(rt, kind, to, peer, now),
         }
@@ -342,6 +411,7 @@ impl Sockets {
     ) -> Result<(), OutFault> {
         match self.dial_on(rt, kind, to, peer) {
             Ok(true) => {
+                self.rest.came = true;
                 self.log.write(rt, Event::Dialled(kind, to, peer));
                 Ok(())
             }
@@ -384,7 +454,7 @@ impl Sockets {
         Ok(None)
     }
 
-    /// The next datagram. Where none has come it is waited for.
+    /// The next datagram. Where none has come it is waited for, or the end rests.
     pub(crate) fn take_datagram<C: Clock>(
         &mut self,
         rt: &C,
@@ -397,7 +467,13 @@ impl Sockets {
         if let Some(taken) = self.datagrams.take(into)? {
             return Ok(Some(taken));
         }
-        self.wait_for(rt, into)
+        match self.rest.told(time(rt)) {
+            None => self.wait_for(rt, into),
+            Some(until) => {
+                self.rest_until(rt, until)?;
+                self.datagrams.take(into)
+            }
+        }
     }
 
     pub(crate) fn send_datagram(&mut self, peer: u32, bytes: &[u8; 32]) -> Result<(), OutFault> {
@@ -428,8 +504,13 @@ impl Sockets {
         self.look(rt)?;
         let now = time(rt);
         let heard = self.sessions.hear(peer, now)?;
-        if matches!(heard, Heard::Closed) {
-            self.part(rt, peer)?;
+        match heard {
+            Heard::Quiet => {}
+            Heard::Text(_) => self.rest.came = true,
+            Heard::Closed => {
+                self.rest.came = true;
+                self.part(rt, peer)?;
+            }
         }
         Ok(heard)
     }
@@ -485,6 +566,8 @@ impl Sockets {
     /// Closes what is open, and waits until the peers have what they were told, for a second at most.
     pub(crate) fn end<C: Clock + Eprint>(&mut self, rt: &C) -> Result<(), OutFault> {
         self.close_all(rt)?;
+        // No datagram cuts the waits short.
+        self.datagrams = Datagrams::new(self.alloc);
         for _ in 0..LONGEST_PARTING / PAUSE {
             if self.partings.is_empty() {
                 break;

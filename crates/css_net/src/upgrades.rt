@@ -4,6 +4,7 @@ ghost use Rattle.css_outside.specs.Outsides.{IsSession};
 
 use crate::heads::{Head, MOST_FIELDS, Progress, has_token, sole_value_of, value_of};
 use crate::metered::Metered;
+use crate::pace::PAUSE;
 use crate::watch::Watch;
 use css_devices::faults::{fault_of, no_room};
 use css_num::Memory;
@@ -286,6 +287,14 @@ impl Upgrade {
         Ok(Turn::Waits)
     }
 
+    /// When there is something to do: at once, or once it has taken too long.
+    fn next(&self) -> u64 {
+        if self.named {
+            return 0;
+        }
+        self.since.saturating_add(LONGEST_HANDSHAKE)
+    }
+
     fn stays(&self, now: u64) -> bool {
         now.saturating_sub(self.since) < LONGEST_HANDSHAKE
     }
@@ -403,6 +412,19 @@ impl Upgrades {
     /// Whether none stands and no connection waits.
     pub(crate) fn is_idle(&self) -> bool {
         self.list.is_empty() && !self.listeners.iter().any(|listener| listener.named)
+    }
+
+    /// When there is something to do, though nothing comes. Connections that the system had no means for are taken
+    /// after a pause.
+    pub(crate) fn next(&self, now: u64) -> u64 {
+        let mut next = u64::MAX;
+        if self.listeners.iter().any(|listener| listener.named) {
+            next = now.saturating_add(PAUSE);
+        }
+        for upgrade in &self.list {
+            next = next.min(upgrade.next());
+        }
+        next
     }
 
     /// Drops the oldest handshake, where as many stand as may.
