@@ -1,8 +1,9 @@
 #!/usr/bin/env python3
-"""Times the program on this machine's own network: how wide a companion's intervals are, and how soon a television
-answers.
+"""Times the program on this machine's own network: how wide a companion's intervals are, how soon a television
+answers, and how seldom a quiet end wakes.
 
-    bench/live.py [PROGRAM ..]       the program's words before the command; ./css where there are none
+    bench/live.py [PROGRAM ..]          the program's words before the command; ./css where there are none
+    bench/live.py --rest [PROGRAM ..]   only what comes of rests, in two minutes
 
 Printed are, in microseconds:
 
@@ -11,17 +12,25 @@ Printed are, in microseconds:
   100 ms, just before the next request; and what the round trip of the echo would allow then, with what both ends
   declare of their clocks;
 - the time from a request's sending to the transmit value of its response, with 0, 16 and 250 sessions open at the
-  television, half of each kind.
+  television, half of each kind;
+- of a television with 16 quiet sessions, and of a watch that asks and reports once a second: how often it wakes in a
+  second, and how much of a processor it takes;
+- how long after a television said it a text is told by a watch, each at a time of its own, and how late its reports
+  are;
+- how much longer than its seconds a run takes.
 
 All clocks are this machine's one monotone clock, so no time is estimated.
 """
-import multiprocessing, os, socket, sys, time
+import json, multiprocessing, os, random, socket, sys, time
 
 HERE = os.path.dirname(os.path.dirname(os.path.abspath(__file__)))
 sys.path.insert(0, os.path.join(HERE, "tests"))
-from live_peer import dial, nanos, request, set_up, start, television  # noqa: E402 (the folder comes first)
+from live_edge import companion, processor_times, stop  # noqa: E402 (the folder comes first)
+from live_peer import dial, nanos, request, set_up, start, television  # noqa: E402
+from television import SECOND, Set  # noqa: E402
 
-PROGRAM = sys.argv[1:] or [os.path.join(HERE, "css")]
+REST = sys.argv[1:2] == ["--rest"]
+PROGRAM = sys.argv[1 + REST:] or [os.path.join(HERE, "css")]
 PORT = 20000 + os.getpid() % 600 * 16
 NANOSECONDS = "urn:x-ns"
 SCRIPT = f"0 programme dvb://1\n0 timeline 1 {NANOSECONDS} 1 1000000000 0\n0 change 1\n"
@@ -94,8 +103,92 @@ def answers(port):
     return times
 
 
+# ---- rests
+
+def quiet(name, child, seconds=20):
+    """How often a run wakes in a second, and how much of a processor it takes."""
+    def wakes():
+        with open(f"/proc/{child.pid}/status", encoding="ascii") as file:
+            return sum(int(row.split()[1]) for row in file if row.startswith("voluntary_ctxt"))
+    before, used = wakes(), processor_times(child.pid)[0]
+    time.sleep(seconds)
+    woke, took = wakes() - before, processor_times(child.pid)[0] - used
+    print(f"{name:46} wakes {woke / seconds:.1f} times a second, and takes {took / seconds:.3%} of a processor",
+          flush=True)
+
+
+def line_of(child, event):
+    """The next line of a watch that tells such an event."""
+    for row in child.stdout:
+        line = json.loads(row)
+        if line["event"] == event:
+            return line
+    sys.exit(child.stderr.read().decode())
+
+
+def told_after(name, child, event, say, count=400):
+    """How long after it was said a text is told. Each comes at a time of its own."""
+    times = []
+    for at in range(count):
+        time.sleep(random.uniform(0.02, 0.06))
+        before = time.monotonic_ns()
+        say(at)
+        line_of(child, event)
+        times.append(time.monotonic_ns() - before)
+    told(name, times)
+
+
+def lateness(port, every, count):
+    """How late each report of a watch is."""
+    child = companion(PROGRAM, port, "--seconds", "3600", "--report-every", str(every), command="watch")
+    first = int(line_of(child, "visit")["reading"])
+    times = [int(line_of(child, "report")["reading"]) - first - (at + 1) * every for at in range(count)]
+    stop(child)
+    told(f"a report is late, one every {every // 1_000_000} ms", times)
+
+
+def over_time(port):
+    """How much longer than its two seconds a run takes, with its closing."""
+    times = []
+    for words in (("tv", "--port", str(port)), ("watch", "--cii", f"ws://127.0.0.1:{port}/cii"),
+                  ("relay", "--cii", f"ws://127.0.0.1:{port + 8}/cii", "--port", str(port))):
+        begun = time.monotonic_ns()
+        child = start(PROGRAM, [*words, "--seconds", "2"])
+        child.wait()
+        times.append(time.monotonic_ns() - begun - 2 * SECOND)
+    told("a run of two seconds is longer", times)
+
+
+def rests(port):
+    tv = start(PROGRAM, ["tv", "--port", str(port), "--seconds", "3600", "--relative"], SCRIPT)
+    time.sleep(1)
+    sessions = [dial(port, "/cii") if at % 2 else set_up(port, SETUP)[0] for at in range(16)]
+    time.sleep(1)
+    quiet("a television with 16 sessions", tv)
+    for session in sessions:
+        session.conn.close()
+    watch = companion(PROGRAM, port, "--seconds", "3600", command="watch")
+    time.sleep(2)
+    quiet("a watch", watch)
+    stop(watch)
+    lateness(port, SECOND, 20)
+    lateness(port, 37_000_000, 500)
+    stop(tv)
+    over_time(port)
+    one = Set(port + 4)
+    watch = companion(PROGRAM, one.port, "--seconds", "3600", command="watch")
+    line_of(watch, "control")
+    told_after("a text of CSS-TS is told", watch, "control", lambda at: one.go_on())
+    told_after("a text of CSS-CII is told", watch, "state", lambda at: one.say("CII", {"contentId": f"dvb://{at}"}))
+    stop(watch)
+    one.end()
+
+
 def main():
     port = PORT
+    if REST:
+        rests(port)
+        return
     tv = television(PROGRAM, port, SCRIPT)
     trip, _ = told("round trip of a plain echo", round_trips())
     for every, reports in ((10_000_000, ROUNDS // 4), (100_000_000, 60)):
@@ -111,6 +204,7 @@ def main():
         if count == 16:
             print(f"  99 in 100 of them within 1 ms: {'yes' if late < 1_000_000 else 'NO'}")
     tv.kill()
+    rests(port + 8)
 
 
 if __name__ == "__main__":

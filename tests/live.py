@@ -21,6 +21,7 @@ from live_edge import Beside, dial_soon
 from live_ends import ends
 from live_hosts import published_hosts
 from live_names import named_hosts
+from live_rest import rests
 from live_server import against_companion
 from live_silent import silent
 from live_slow import slow_reader
@@ -385,6 +386,7 @@ def edge(port):
                         (system, 16), (lasting, 10), (statuses, 6)):
         call(port, PROGRAM, check)
         port += ports
+    rests(port + 4, PROGRAM, check)
     long_ones.tell(check)
 
 

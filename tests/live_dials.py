@@ -9,7 +9,7 @@ from live_peer import start
 from own_network import alone, refused_dials, why_not
 
 DIALS, APART = 8, 0.5
-LONG = ("--turns", "1000000", "--reports", "1000000")
+LONG = ("--seconds", "3600", "--reports", "1000000")
 
 
 def forbidden(peer):
@@ -57,7 +57,7 @@ def refused(check, program, command, words):
         check.skip(f"how often a {command} dials a port where nobody listens", why)
         return
     begun = time.monotonic()
-    cii = ["--cii", "ws://127.0.0.1:6699/cii", "--turns", "1000000"]
+    cii = ["--cii", "ws://127.0.0.1:6699/cii", "--seconds", "3600"]
     child = start(alone(program), [command, *cii, *words])
     wait_for(lambda: refused_dials(child.pid) >= DIALS)
     count = refused_dials(child.pid)

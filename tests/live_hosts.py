@@ -59,7 +59,7 @@ def told_at(child, port, address):
 
 def published(check, program, port, host, reached, command=("tv",)):
     """A television of this host is dialled at these addresses, and what it tells there can be dialled."""
-    child = start(program, [*command, "--port", str(port), "--host", host, "--turns", "1000000"], SCRIPT)
+    child = start(program, [*command, "--port", str(port), "--host", host, "--seconds", "3600"], SCRIPT)
     for address in reached:
         name = f"a {command[0]} at {host} tells a peer at {address}"
         peer = told_at(child, port, address)
@@ -79,9 +79,9 @@ def published(check, program, port, host, reached, command=("tv",)):
 
 def relayed(check, program, port, reached):
     """The same of a relay, whose state is told once it has one."""
-    television = start(program, ["tv", "--port", str(port), "--turns", "1000000"], SCRIPT)
+    television = start(program, ["tv", "--port", str(port), "--seconds", "3600"], SCRIPT)
     child = start(program, ["relay", "--cii", f"ws://127.0.0.1:{port}/cii", "--port", str(port + 2), "--host",
-                            "0.0.0.0", "--turns", "1000000"])
+                            "0.0.0.0", "--seconds", "3600"])
     for address in reached:
         name = f"a relay at 0.0.0.0 tells a peer at {address}"
         peer, state = told_at(child, port + 2, address), {}

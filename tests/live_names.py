@@ -8,7 +8,7 @@ from live_server import Server, state_of, wall
 
 NAME, RESOLVER = "two-homes", "127.0.0.77"
 UNKNOWN, SHARED, SILENT = "nobody.example", "neither.example", "silent.example"
-LONG = ("--turns", "1000000", "--reports", "1000000")
+LONG = ("--seconds", "3600", "--reports", "1000000")
 LOOKS_UP = 6  # How long a look-up waits for an answer, in seconds.
 MOUNT = 'mount --bind "$0/hosts" /etc/hosts && mount --bind "$0/resolv.conf" /etc/resolv.conf && exec "$@"'
 

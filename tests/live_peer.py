@@ -87,8 +87,8 @@ def start(program, words, given=""):
 
 
 def television(program, port, script, words=()):
-    """A television that answers by now, with the greatest number of turns."""
-    child = start(program, ["tv", "--port", str(port), "--turns", "1000000", *words], script)
+    """A television that answers by now, and goes on for an hour."""
+    child = start(program, ["tv", "--port", str(port), "--seconds", "3600", *words], script)
     end = time.monotonic() + 60
     while time.monotonic() < end:
         try:

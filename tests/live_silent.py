@@ -57,7 +57,7 @@ def stays(check, name, watched):
 
 def of_television(check, program, port):
     """A television's peers say nothing, all of them but one, and take all its room."""
-    child = start(program, ["tv", "--port", str(port), "--turns", "1000000"], "0 programme dvb://1\n0 change 1\n")
+    child = start(program, ["tv", "--port", str(port), "--seconds", "3600"], "0 programme dvb://1\n0 change 1\n")
     silent = {"a peer on /cii": Watched(dial_soon(port, "/cii"), False),
               "a peer on /ts": Watched(dial_soon(port + 1, "/ts"), False)}
     good = Watched(dial_soon(port, "/cii"), True)
@@ -87,7 +87,7 @@ def of_companion(check, program, answers):
         return serve
     timestamps = Listener(session("CSS-TS", CONTROL))
     server = Listener(session("CSS-CII", state(clock.port, timestamps.port)))
-    child = companion(program, server.port, "--turns", "1000000", "--reports", "1000000")
+    child = companion(program, server.port, "--seconds", "3600", "--reports", "1000000")
     wait_for(lambda: len(seen) == 2)
     for name, watched in sorted(seen.items()):
         watched.wait()

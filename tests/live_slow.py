@@ -47,7 +47,7 @@ def try_it(program):
     begun = time.monotonic() + 2
     script = long_programme(1) + long_programme(2)
     script += "".join(f"{int((begun + at * EACH) * 1e9)} change {at % 2 + 1}\n" for at in range(TEXTS))
-    child = start(program, ["tv", "--port", str(PORT), "--turns", "1000000"], script)
+    child = start(program, ["tv", "--port", str(PORT), "--seconds", "3600"], script)
     fast = dial_soon(PORT, "/cii", room=16384)
     fast.text()
     peer = SlowPeer(fast.conn, True)

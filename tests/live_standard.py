@@ -110,7 +110,7 @@ def refused(port):
 def unread_log(check, program, port):
     """A television's log goes to a pipe that nobody reads."""
     source, sink = small_pipe()
-    child = subprocess.Popen(["env", "CSS_LOG=1", *program, "tv", "--port", str(port), "--turns", "1000000"],
+    child = subprocess.Popen(["env", "CSS_LOG=1", *program, "tv", "--port", str(port), "--seconds", "3600"],
                              stdin=subprocess.PIPE, stdout=subprocess.PIPE, stderr=sink)
     STARTED.append(child)
     os.close(sink)
@@ -225,7 +225,7 @@ def standard(port, program, check):
         calls.append((closed, [first], "css_first", [], evening, (4, 5, 0)))
     else:
         check.skip("css_first", "it wasn't built")
-    many = ["--turns", "1000000"]
+    many = ["--seconds", "3600"]
     calls += [
         (numbers, program, "tv", ["output", "error"], ["tv", at, str(port + 8), *many], port + 8),
         (numbers, program, "relay", list(STREAMS), ["relay", *cii, at, str(port + 10), *many], port + 10),

@@ -82,7 +82,7 @@ def slow_output(check, program):
 
 def running(program, port):
     """The file that the system runs for these words, and the words before the command, once a script has ended."""
-    child = start(program, ["tv", "--port", str(port), "--turns", "1000000"], SCRIPT)
+    child = start(program, ["tv", "--port", str(port), "--seconds", "3600"], SCRIPT)
     try:
         dial_soon(port, "/cii").conn.close()
         with open(f"/proc/{child.pid}/cmdline", encoding="utf-8") as file:

@@ -6,15 +6,16 @@ from live_edge import (PATIENCE, UPGRADED, Beside, Clock, Listener, closed_port,
                        has_ended, hold, pauses_of, processor_times, reset, state, stop, teller, upgraded, wait_for)
 from live_peer import CLOSE, nanos, request, start
 
-TURNS = ("--turns", "500")
+TURNS, LONG, HOUR = ("--turns", "500"), ("--turns", "1000000"), ("--seconds", "3600")
 LEAST = 1.5  # In 500 turns with a pause of 4 ms, 2 seconds are pauses.
 
 
-def silent_clock(check, program, command, words=()):
-    """A wall clock that never answers, asked in each turn."""
+def silent_clock(check, program, command, long, *words):
+    """A wall clock that never answers, asked in each turn, in a run that is long enough."""
     clock = Clock()
     server = Listener(teller(state(clock.port)))
-    child = companion(program, server.port, "--turns", "1000000", "--ask-every", "1", *words, command=command)
+    child = companion(program, server.port, *long, "--ask-every", "1", *words, command=command)
+    name = f"a {command} {long[0]} beside a silent wall clock"
     try:
         if not wait_for(lambda: clock.times):
             check(f"a {command} asks a silent wall clock", False)
@@ -23,10 +24,10 @@ def silent_clock(check, program, command, words=()):
         time.sleep(2)
         took, after, asked = time.monotonic() - begun, processor_times(child.pid), len(clock.times) - asked
         used, waited = after[0] - before[0], after[1] - before[1]
-        check(f"a {command} beside a silent wall clock takes under 10 % of a processor", used < 0.1 * took,
+        check(f"{name} takes under 10 % of a processor", used < 0.1 * took,
               f"{100 * used / took:.1f} %")
         took -= waited  # While it waited for a processor it could make no turn.
-        check(f"a {command} beside a silent wall clock makes at most 300 turns a second", asked <= 300 * took,
+        check(f"{name} makes at most 300 turns a second", asked <= 300 * took,
               f"{asked / took:.0f} a second")
     finally:
         stop(child)
@@ -122,7 +123,7 @@ def port_zero(check, program, port):
     except PermissionError as error:
         check.skip("a datagram from port 0", error)
         return
-    child = start(program, ["tv", "--port", str(port), "--turns", "1000000"])
+    child = start(program, ["tv", "--port", str(port), *HOUR])
     dial_soon(port, "/cii").conn.close()
     udp, delays = socket.socket(socket.AF_INET, socket.SOCK_DGRAM), []
     udp.settimeout(PATIENCE)
@@ -146,8 +147,9 @@ def port_zero(check, program, port):
 def turns(port, program, check):
     nobody = f"udp://127.0.0.1:{closed_port()}"
     Beside([
-        (silent_clock, program, "companion", ("--reports", "1000000")),
-        (silent_clock, program, "relay", ("--port", str(port))),
+        (silent_clock, program, "companion", LONG, "--reports", "1000000"),
+        (silent_clock, program, "companion", HOUR, "--reports", "1000000"),
+        (silent_clock, program, "relay", HOUR, "--port", str(port)),
         (turns_last, program, "a wall clock where nobody listens uses up no turns",
          teller({**state(), "wcUrl": nobody})),
         (turns_last, program, "2,000 pings a second use up no turns", pinged, True),

@@ -137,7 +137,7 @@ def binary(check, port, path):
 
 
 def at_television(port, program, check):
-    child = start(program, ["tv", "--port", str(port), "--turns", "1000000"], "0 programme dvb://1\n0 change 1\n")
+    child = start(program, ["tv", "--port", str(port), "--seconds", "3600"], "0 programme dvb://1\n0 change 1\n")
     dial_soon(port, "/cii").conn.close()
     long_head = head_of(port)[:-2] + b"X: " + b"a" * 80_000
     early = "a request that goes on after its head"
@@ -185,7 +185,7 @@ def told_of(program, serve):
                 seen["error"] = repr(error)
             done.set()
     server = Listener(handed)
-    child = companion(program, server.port, "--turns", "1000000")
+    child = companion(program, server.port, "--seconds", "3600")
     done.wait(PATIENCE)
     stop(child)
     server.end()

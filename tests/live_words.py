@@ -240,7 +240,7 @@ def logged(check, program, port):
 
 def departures(check, program, port):
     """The log says of a peer that went away without a close that it did, and only of one that broke a rule that."""
-    child = start(["env", "CSS_LOG=1", *program], ["tv", "--port", str(port), "--turns", "1000000"])
+    child = start(["env", "CSS_LOG=1", *program], ["tv", "--port", str(port), "--seconds", "3600"])
     late = threading.Timer(60, child.kill)  # Else a line that doesn't come would be waited for.
     late.start()
     for name, leave, words in (
