@@ -9,4 +9,3 @@ pub mod Widths
 pub mod Measuring
 pub mod Reading
 pub mod Standing
-pub mod FaultWords
