@@ -1,6 +1,5 @@
 pub mod Following
 pub mod Listening
-pub mod Words
 pub mod SheetLines
 pub mod Sheets
 pub mod Marks

@@ -14,7 +14,6 @@ mod notes;
 mod reading;
 mod sheet;
 mod waiting;
-mod words;
 
 pub use cues::Cues;
 pub use follower::Follower;

@@ -101,8 +101,11 @@ impl Lines for SheetLines {
         text: &[u8],
         _out: &mut Vec<u8>,
     ) -> Result<(), LineFault<Form>> {
-        let line = read_line(self.alloc, text)?;
-        add(&mut self.sheet, line)
+        match read_line(self.alloc, text) {
+            Ok(line) => add(&mut self.sheet, line),
+            Err(css_schedule::LineFault::Form) => Err(LineFault::Refused(Form)),
+            Err(css_schedule::LineFault::Memory) => Err(LineFault::Memory),
+        }
     }
 
     fn finish(&mut self, _out: &mut Vec<u8>) -> Result<(), LineFault<Form>> {
