@@ -7,10 +7,10 @@ import threading
 
 sys.path.insert(0, str(pathlib.Path(__file__).resolve().parent.parent / "tools"))
 from live_edge import wait_for
+from page_tv import SLOW_RATE
 from television import RATE, SECOND, Set, tick_at
 
 DELAY = 0.06
-SLOW_RATE = {"unitsPerSecond": 1000, "unitsPerTick": 1}
 SCRIPT = """\
 0 programme dvb://233a.1004.1044
 0 timeline 1 urn:dvb:css:timeline:pts 1 90000 900000

@@ -33,6 +33,12 @@ def span(answer, reading):
     return t3 - PRECISION_NS - 1 + low, t2 + PRECISION_NS + 1 + high
 
 
+def disagree(answers, reading):
+    """Whether the spans of these answers have no reading of the wall clock in common."""
+    spans = [span(answer, reading) for answer in answers]
+    return bool(spans) and max(low for low, _ in spans) > min(high for _, high in spans)
+
+
 def carried(wall, error, past):
     """The span of the wall clock so many ns after the reading of a report."""
     low = (F - error) * (past - 2 * LOCAL_PRECISION - 1) // (F + LOCAL_ERROR)
@@ -129,8 +135,7 @@ class Evening:
             self.say("answer", error=ERROR, landed=self.reading(landed), originate=self.reading(asked),
                      precision=str(PRECISION_NS), receive=str(received), transmit=str(sent), type=1,
                      width=str(high - low))
-            spans = [span(one, answer[3]) for one in self.answers]
-            if max(low for low, _ in spans) > min(high for _, high in spans):
+            if disagree(self.answers, answer[3]):
                 self.why = "disagree"
 
     def hear(self):

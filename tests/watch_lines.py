@@ -6,7 +6,8 @@ import pathlib
 import re
 import sys
 
-from page_tv import ERROR, F, LOCAL_ERROR, LOCAL_PRECISION, PRECISION_NS, SELECTOR, rate_in, span, tick_at
+from page_tv import (ERROR, F, LOCAL_ERROR, LOCAL_PRECISION, PRECISION_NS, SELECTOR, disagree, rate_in, span,
+                     tick_at)
 
 sys.path.append(str(pathlib.Path(__file__).resolve().parent.parent / "examples"))
 from carry import Television as Carried
@@ -133,11 +134,6 @@ def sent(text):
     return data.decode(errors="replace").encode()[:1000].decode(errors="ignore")
 
 
-def do_disagree(answers, reading):
-    spans = [span(answer, reading) for answer in answers]
-    return bool(spans) and max(low for low, _ in spans) > min(high for _, high in spans)
-
-
 class Visit:
     """What the lines of a visit have told so far."""
 
@@ -260,7 +256,7 @@ class Story:
         low, high = span(visit.answers[-1], landed)
         self.expect("answers", (kind, t1, t2, t3) in self.tv.sent and said["error"] == ERROR
                     and said["precision"] == str(PRECISION_NS) and said["width"] == str(high - low), said)
-        visit.disagrees, visit.refused = do_disagree(visit.answers, landed), None
+        visit.disagrees, visit.refused = disagree(visit.answers, landed), None
 
     def on_refused(self, visit, said):
         visit.refused = said["fault"]

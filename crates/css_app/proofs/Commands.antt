@@ -182,9 +182,9 @@ pub record TookNone {T E : Type 0} (reading : List ℕ → Result T E) (left : O
   pub lacks : (bytes : List ℕ) (value : T) → left ≡ Some bytes → reading bytes ≡ Ok value → HasNotFailed r r'
       → result ≡ status.Memory
 
-module _ {T E Bad : Type 0} (reading : List ℕ → Result T E) (fault : Bad → E) (refused : Bad → Status)
+module _ {T Bad : Type 0} (reading : List ℕ → Result T Bad) (refused : Bad → Status)
     (of_line : (bad : Bad) → IsOfLine (refused bad)) where
-  pub took_none : {r r' : ℕ} (left : Option (List ℕ)) (result : Status) → GivesNone reading fault refused left result
+  pub took_none : {r r' : ℕ} (left : Option (List ℕ)) (result : Status) → GivesNone reading refused left result
       → CountsReads r r' result → TookNone reading left r r' result
   took_none left status.ReadFault none counted = search rules
   took_none left status.Memory none counted = search rules
@@ -199,11 +199,11 @@ module _ {T E Bad : Type 0} (reading : List ℕ → Result T E) (fault : Bad →
   -- the run over its lines stopped
   pub none_at : {Cause : Type 0} (meaning : Meaning Cause) (bad : ℕ → Refusal Cause → Bad)
       → ((bytes : List ℕ) (line : ℕ) (why : Refusal Cause) → (outcome meaning bytes).verdict ≡ Some (line, why)
-      → reading bytes ≡ Err (fault (bad line why))) → (left left_new old new : Option (List ℕ))
-      → ((bad : Bad) → ((bytes : List ℕ) → left ≡ Some bytes → reading bytes ≡ Err (fault bad))
-      → GivesNone reading fault refused left (refused bad)) → (stop : Stop Cause) → SinkCounts 0 0 stop
+      → reading bytes ≡ Err (bad line why)) → (left left_new old new : Option (List ℕ))
+      → ((bad : Bad) → ((bytes : List ℕ) → left ≡ Some bytes → reading bytes ≡ Err bad)
+      → GivesNone reading refused left (refused bad)) → (stop : Stop Cause) → SinkCounts 0 0 stop
       → ((bytes : List ℕ) → left ≡ Some bytes → RanUntil meaning bytes left_new old new stop)
-      → GivesNone reading fault refused left (stop_status (λ line why. refused (bad line why)) stop)
+      → GivesNone reading refused left (stop_status (λ line why. refused (bad line why)) stop)
   none_at meaning bad is left left_new old new none (stops.BadLine line why) wrote ran =
       none (bad line why) (λ bytes of. is bytes line why (ap (λ (o : Outcome _). o.verdict) (ran bytes of).verdict))
   none_at meaning bad is left left_new old new none stops.WriteFault wrote ran =

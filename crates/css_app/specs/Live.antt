@@ -15,7 +15,6 @@ use Rattle.css_outside.specs.declared.limit.Limit.TheVariants as limit
 use Rattle.css_follow.specs.Following.{Plan, Seen}
 use Rattle.css_follow.specs.Listening.{Listener, all_plans, all_seen}
 use Rattle.css_follow.specs.Sheets.{sheet_in}
-use Rattle.css_follow.specs.declared.fault.SheetFault.TheVariants.{Line}
 use Rattle.css_follow.specs.declared.sheet.Sheet.{Sheet}
 use Rattle.css_schedule.specs.declared.fault.LineWhy.{LineWhy}
 use Rattle.css_schedule.specs.declared.line.ScriptLine.{ScriptLine}
@@ -184,23 +183,22 @@ pub record Gives {T E : Type 0} (reading : List ℕ → Result T E) (before now 
 
 -- It gave nothing that reads so: a read failed, memory ran out, or a line is refused. The status tells which one, and
 -- so does the reading.
-abbrev pub GivesNone : {T E Bad : Type 0} → (List ℕ → Result T E) → (Bad → E) → (Bad → Status) → Option (List ℕ)
-    → Status → Type 0
-GivesNone reading fault refused left status.ReadFault = ⊤
-GivesNone reading fault refused left status.Memory = ⊤
-GivesNone {Bad = Bad} reading fault refused left result = (bad : Bad) × (result ≡ refused bad)
-    × ((bytes : List ℕ) → left ≡ Some bytes → reading bytes ≡ Err (fault bad))
+abbrev pub GivesNone : {T Bad : Type 0} → (List ℕ → Result T Bad) → (Bad → Status) → Option (List ℕ) → Status → Type 0
+GivesNone reading refused left status.ReadFault = ⊤
+GivesNone reading refused left status.Memory = ⊤
+GivesNone {Bad = Bad} reading refused left result = (bad : Bad) × (result ≡ refused bad)
+    × ((bytes : List ℕ) → left ≡ Some bytes → reading bytes ≡ Err bad)
 
 -- a cue sheet, of which a line is outside the grammar
 abbrev pub HasNoSheet : Option (List ℕ) → Status → Type 0
-HasNoSheet = GivesNone sheet_in Line status.BadSheet
+HasNoSheet = GivesNone sheet_in status.BadSheet
 
 -- the status of a script of which a line is too long, or outside the grammar
 abbrev pub bad_line : ℕ × LineWhy → Status
 bad_line bad = status.BadLine bad.0 bad.1
 
 abbrev pub HasNoScript : Option (List ℕ) → Status → Type 0
-HasNoScript = GivesNone script_in (λ bad. bad) bad_line
+HasNoScript = GivesNone script_in bad_line
 
 -- ---- a companion's run
 -- A run was made, which followers with these plans followed, and the status says how it ended.

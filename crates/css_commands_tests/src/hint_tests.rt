@@ -1,6 +1,6 @@
 //! What helps after each status.
 
-use crate::running::{NO_MEMORY, check, words_of};
+use crate::running::{NO_MEMORY, check, over, run_case, words_of};
 use crate::status_tests::check_told;
 use css_app::{LineWhy, Status};
 use css_cii::{CiiFault, CiiName};
@@ -136,6 +136,48 @@ fn a_missing_companion_is_told(rt: HostRuntime) {
 #[test]
 fn each_status_has_its_hint(rt: HostRuntime) {
     check_all(&rt, rt.alloc(), &HINTS);
+}
+
+/// Were this line of a schedule refused, its hint would name none of its words.
+fn check_no_word(rt: &impl Abort, alloc: Global, number: u64, line: &str, asked: &Asked<'_>) {
+    let why = LineWhy::Form;
+    let refused = Status::BadLine { line: number, why };
+    let helps = hint(alloc, &refused, asked).expect(rt, NO_MEMORY);
+    let told = helps.bytes();
+    let names_none = told.starts_with(b"css: hint: a line is ")
+        || told.starts_with(b"css: hint: line ");
+    assert!(rt; names_none, "{number}: {line}");
+}
+
+/// Words of a command, and what hints of its lines are asked for.
+const GENERATED: [(&str, &str); 3] = [
+    ("generate --seed 7 --lines 600", "replay"),
+    ("generate --seed 7 --lines 600", "migrate"),
+    ("generate --seed 7 --lines 600 --companions 3", "replay"),
+];
+
+/// The hints have a grammar of their own, and each line that is generated is in it.
+#[test]
+fn no_word_of_a_generated_line_is_wrong(rt: HostRuntime) {
+    for (generate, command) in &GENERATED {
+        let (_, schedule) = run_case(&rt, rt.alloc(), &over(generate, ""));
+        let text = str::from_utf8(&schedule).unwrap_or("");
+        let first_line = text.split('\n').next().unwrap_or("");
+        let words = words_of(&rt, rt.alloc(), command);
+        let mut number: u64 = 0;
+        for line in text.split('\n') {
+            number = number.saturating_add(1);
+            if !line.is_empty() {
+                let asked = Asked {
+                    line: Some(line.as_bytes()),
+                    first_line: Some(first_line.as_bytes()),
+                    ..asked_of(&words, &(command, "", ""))
+                };
+                check_no_word(&rt, rt.alloc(), number, line, &asked);
+            }
+        }
+        assert!(rt; number > 600, "{generate}: {number} lines");
+    }
 }
 
 /// Both addresses are cut in the hint, the new one before a letter of two bytes. Neither is part of the status line.

@@ -98,7 +98,7 @@ fn status_of<S: Source, K: Sink, O: Outside, P: Spawner, F: Listens>(
 pub const NO_MEMORY: &str = "no memory";
 
 /// Makes a run with the followers of the program. Its status in words, and what it printed.
-fn run_case(rt: &impl Abort, alloc: Global, case: &Case<'_>) -> (String, Vec<u8>) {
+pub fn run_case(rt: &impl Abort, alloc: Global, case: &Case<'_>) -> (String, Vec<u8>) {
     let piece = case.piece.max(1);
     let mut source = MemorySource::new(alloc, case.input, piece, case.reads).expect(rt, NO_MEMORY);
     let mut sink = MemorySink::new(alloc, piece, case.writes).expect(rt, NO_MEMORY);

@@ -3,21 +3,35 @@
 use crate::common::{check, check_that, words};
 use crate::follow_rows::*;
 use css_companion::{Cause, Report};
-use css_follow::{Before, Cues, Follower, Listens, Meter, Nobody, Sheet, SheetFault, read_sheet};
+use css_follow::{Before, Cues, Follower, Listens, Meter, Nobody, Sheet, SheetLines};
+use css_lines::{PIECE, Stop, drive};
 use css_num::{Memory, Text};
+use css_outside::{NeverFailsSink, NeverFailsSource};
 use std::alloc::Global;
 use std::process::Abort;
 
+/// The sheet that bytes are, or the number of the first line that is refused.
+fn read_sheet(rt: &impl Abort, alloc: Global, bytes: &[u8]) -> Result<Sheet, u64> {
+    let mut source = NeverFailsSource::new(alloc, bytes, PIECE).expect(rt, "memory");
+    let mut sink = NeverFailsSink::new(alloc, PIECE).expect(rt, "memory");
+    let mut lines = SheetLines::new(alloc);
+    match drive(alloc, &mut source, &mut sink, &mut lines) {
+        Ok(()) => Ok(lines.sheet()),
+        Err(Stop::BadLine { line, .. }) => Err(line),
+        Err(_) => panic!(rt; "memory"),
+    }
+}
+
 /// How many cues a sheet has, and its meter.
-fn counts(alloc: Global, bytes: &[u8]) -> Read {
-    let sheet = read_sheet(alloc, bytes)?;
+fn counts(rt: &impl Abort, alloc: Global, bytes: &[u8]) -> Read {
+    let sheet = read_sheet(rt, alloc, bytes)?;
     Ok((sheet.cues.len(), sheet.meter))
 }
 
 #[test]
 fn sheets_are_read_by_their_grammar(rt: HostRuntime) {
     for (bytes, expected) in &SHEETS {
-        assert!(rt; counts(rt.alloc(), bytes) == *expected, "{bytes:?}");
+        assert!(rt; counts(&rt, rt.alloc(), bytes) == *expected, "{bytes:?}");
     }
 }
 
@@ -35,21 +49,14 @@ fn sheets_have_their_limits(rt: HostRuntime) {
     for (parts, expected) in &LONG_SHEETS {
         let sheet = long_sheet(&rt, rt.alloc(), parts);
         assert!(rt;
-            counts(rt.alloc(), sheet.as_bytes()) == *expected,
+            counts(&rt, rt.alloc(), sheet.as_bytes()) == *expected,
             "{parts:?}"
         );
     }
 }
 
-#[test]
-fn a_fault_is_told_in_words(rt: HostRuntime) {
-    let told = format!(in rt.alloc(); "{}, {}", SheetFault::Line(7), SheetFault::from(Memory));
-    let told = told.expect(&rt, "memory");
-    check(&rt, 0, &told, "sheet line 7, out of memory");
-}
-
 fn sheet(rt: &impl Abort, alloc: Global, lines: &str) -> Sheet {
-    read_sheet(alloc, lines.as_bytes()).expect(rt, "a sheet")
+    read_sheet(rt, alloc, lines.as_bytes()).expect(rt, "a sheet")
 }
 
 fn report_of(interval: Option<(i128, i128)>) -> Report {

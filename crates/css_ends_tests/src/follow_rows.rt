@@ -1,11 +1,9 @@
 //! What is read of sheets, and what followers say of reports.
 
-use css_follow::SheetFault;
+/// How many cues a sheet has, and its meter; or the number of the first line that is refused.
+pub type Read = Result<(usize, Option<u32>), u64>;
 
-/// How many cues a sheet has, and its meter.
-pub type Read = Result<(usize, Option<u32>), SheetFault>;
-
-const REFUSED: Read = Err(SheetFault::Line(1));
+const REFUSED: Read = Err(1);
 
 const ONE_CUE: Read = Ok((1, None));
 
@@ -20,24 +18,24 @@ pub const SHEETS: [(&[u8], Read); 17] = [
     (b"meter 0", REFUSED),
     (b"meter 1000001", REFUSED),
     (b"meter 18446744073709551617", REFUSED),
-    (b"meter 1\ncue 5 a\nmeter 1", Err(SheetFault::Line(3))),
+    (b"meter 1\ncue 5 a\nmeter 1", Err(3)),
     (b"cue 1", REFUSED),
     (b"cue\t1 a", REFUSED),
     (b"cue 1 a\r\n", REFUSED),
     (b"Cue 1 a", REFUSED),
     (b"\n", REFUSED),
-    (b"cue 1 a\n\n", Err(SheetFault::Line(2))),
-    (b"cue 1 a\ncue 2 b\ncue c", Err(SheetFault::Line(3))),
+    (b"cue 1 a\n\n", Err(2)),
+    (b"cue 1 a\ncue 2 b\ncue c", Err(3)),
 ];
 
 /// Parts of sheets, each so many times in a row.
 #[rattlefmt::skip]
 pub const LONG_SHEETS: [(&[(&str, usize)], Read); 5] = [
-    (&[("cue 1 a\n", 1001)], Err(SheetFault::Line(1001))),
+    (&[("cue 1 a\n", 1001)], Err(1001)),
     (&[("cue 1 a\n", 999), ("meter 2\n", 1), ("cue 1 a", 1)], Ok((1000, Some(2)))),
-    (&[("cue 1 a\n", 1000), ("meter 2\n", 1), ("cue 1 a", 1)], Err(SheetFault::Line(1002))),
+    (&[("cue 1 a\n", 1000), ("meter 2\n", 1), ("cue 1 a", 1)], Err(1002)),
     (&[("cue 1 ", 1), ("a", 4090), ("\ncue 1 ", 1), ("b", 4090), ("\n", 1)], Ok((2, None))),
-    (&[("cue 1 a\ncue 1 ", 1), ("a", 4091), ("\n", 1)], Err(SheetFault::Line(2))),
+    (&[("cue 1 a\ncue 1 ", 1), ("a", 4091), ("\n", 1)], Err(2)),
 ];
 
 /// A sheet, unless the one before stays, an interval or a cause, what is said of it, and whether the follower goes on.

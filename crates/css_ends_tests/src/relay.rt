@@ -5,9 +5,10 @@ ghost use Rattle.std.specs.Prelude.{◌≡◌, ◌≤◌, ◌<◌};
 use crate::common::{EXACT, check, check_order, check_that, datagram, text, words};
 use css_cii::{CiiName, full, write_message};
 use css_client::Landing;
+use css_companion::{Binding, CompanionConfig, CompanionEvent, CompanionFault};
 use css_model::{LIMIT, WcFault};
 use css_num::{Span, Text};
-use css_relay::{CompanionConfig, CompanionEvent, CompanionFault, Relay, RelayFault};
+use css_relay::{Relay, RelayFault};
 use std::alloc::Global;
 use std::process::Abort;
 
@@ -118,7 +119,7 @@ fn ask(relay: &mut Relay, reading: u64)
     requires floor { relay.old.companion.client.floor ≤ reading }
     ensures { relay.new.companion.client.floor ≤ reading }
 {
-    let _ = relay.ask(reading);
+    let _ = relay.companion().ask(reading);
 }
 
 fn land(rt: &impl Abort, relay: &mut Relay, bytes: &[u8], reading: u64)
@@ -206,7 +207,8 @@ fn tell(
     relay: &mut Relay,
     told: &str,
 ) -> Result<Option<Text>, CompanionFault> {
-    relay.step(CompanionEvent::CiiText(text(rt, alloc, told)))
+    let event = CompanionEvent::CiiText(text(rt, alloc, told));
+    relay.companion().step_under(Binding::WallClock, event)
 }
 
 /// The text of the state that the relay tells its companions after these texts of the television.

@@ -1,4 +1,3 @@
-pub mod Cut
 pub mod Passes
 pub mod SheetsRead
 pub mod Listening

@@ -153,13 +153,13 @@ pub cues-after : (notes : List Note) (cues : List Cue) → cues_in (map (waiting
 cues-after notes [] = refl
 cues-after notes (cue ∷ cues) = ap (λ l. cue ∷ l) (cues-after notes cues)
 
-pub marked-more : (notes : List Note) (note : Note) (cues : List Cue)
+pub waiting_after-more : (notes : List Note) (note : Note) (cues : List Cue)
     → map (marked_by note.report) (map (waiting_after notes) cues) ≡ map (waiting_after (notes ++ note ∷ [])) cues
-marked-more notes note [] = refl
-marked-more notes note (cue ∷ cues) =
+waiting_after-more notes note [] = refl
+waiting_after-more notes note (cue ∷ cues) =
     ap (λ m. record { cue = cue; mark = m } ∷ map (marked_by note.report) (map (waiting_after notes) cues))
     (sym (mark-more Ahead cue.tick notes note))
-    ∙ ap (λ l. waiting_after (notes ++ note ∷ []) cue ∷ l) (marked-more notes note cues)
+    ∙ ap (λ l. waiting_after (notes ++ note ∷ []) cue ∷ l) (waiting_after-more notes note cues)
 
 passed-by : (a b : Bool) → is_mark_passed (mark_by a b) ≡ a
 passed-by true b = refl
@@ -182,9 +182,9 @@ cues-marked r [] = refl
 cues-marked r (w ∷ ws) = ap (λ l. w.cue ∷ l) (cues-marked r ws)
 
 -- marks that were just made
-pub marked-first : (notes : List Note) (cues : List Cue) (list : List Waiting) → list ≡ map (waiting_after notes) cues
-    → AreMarked notes list
-marked-first notes cues list e = record {
+pub AreMarked-first : (notes : List Note) (cues : List Cue) (list : List Waiting)
+    → list ≡ map (waiting_after notes) cues → AreMarked notes list
+AreMarked-first notes cues list e = record {
   marks = e ∙ ap (map (waiting_after notes)) (sym (ap cues_in e ∙ cues-after notes cues));
 }
 
@@ -193,11 +193,12 @@ module _ (notes next : List Note) (list marked : List Waiting) (r : Report) (tex
   -- each cue has the mark of one more note
   again : marked ≡ map (waiting_after next) (cues_in list)
   again =
-      went ∙ ap (map (marked_by r)) m.marks ∙ marked-more notes (record { report = r; text = text }) (cues_in list)
+      went ∙ ap (map (marked_by r)) m.marks
+      ∙ waiting_after-more notes (record { report = r; text = text }) (cues_in list)
       ∙ ap (λ n. map (waiting_after n) (cues_in list)) (sym noted)
 
-  pub marked-next : AreMarked next marked
-  marked-next = record {
+  pub AreMarked-next : AreMarked next marked
+  AreMarked-next = record {
     marks = again ∙ ap (map (waiting_after next)) (sym (ap cues_in went ∙ cues-marked r list));
   }
 

@@ -1,25 +1,20 @@
 -- The sheet of lines that are read one after another, and of all bytes.
 use Rattle.std.proofs.Common.{◌≡◌, ℕ, Bool, true, false, cond, List, [], ◌∷◌, ◌++◌, ◌+◌, length}
-use Rattle.std.proofs.Common.{ap, refl, sym, ◌∙◌, append-nil, inl, inr}
-use Rattle.std.specs.Prelude.{◌⊎◌, Option, Some, None, is_none, Result, Ok, Err, OnOk}
+use Rattle.std.proofs.Common.{ap, refl, sym, ◌∙◌, append-nil}
+use Rattle.std.specs.Prelude.{Some, None, is_none, Result, Ok, Err, OnOk}
 use Rattle.std.specs.List.{flat_map}
 use Rattle.std.proofs.lemmas.Grind.{flat_map-append}
 use Rattle.css_num.specs.Gives.{LeavesBy}
 use Rattle.css_lines.specs.declared.reader.LineFault.{LineFault}
 use Rattle.css_lines.specs.declared.reader.LineFault.TheVariants as lacks
-use Rattle.css_lines.specs.declared.ending.Stop.{Stop}
-use Rattle.css_lines.specs.declared.ending.Stop.TheVariants as stop
-use Rattle.css_lines.specs.Ending.{RanUntil}
 use Rattle.css_lines.specs.Lines.{lines_of}
 use Rattle.css_lines.specs.Meaning.{outcome}
-use Rattle.css_follow.specs.declared.fault.SheetFault.{SheetFault}
-use Rattle.css_follow.specs.declared.fault.SheetFault.TheVariants as fault
 use Rattle.css_follow.specs.declared.line.Form.{Form}
 use Rattle.css_follow.specs.declared.line.SheetLine.{SheetLine}
 use Rattle.css_follow.specs.declared.line.SheetLine.TheVariants.{Announce, Measure}
 use Rattle.css_follow.specs.declared.sheet.Cue.{Cue}
 use Rattle.css_follow.specs.declared.sheet.Sheet.{Sheet}
-use Rattle.css_follow.specs.Reading.{grown, with_line, sheet_fault}
+use Rattle.css_follow.specs.Reading.{grown, with_line}
 use Rattle.css_follow.specs.SheetLines.{line_of}
 use Rattle.css_follow.specs.Sheets.{cue_in, meter_in, first_of, sheet_of, has_room}
 use Rattle.css_follow.specs.Sheets.{sheet_lines, unless_refused, sheet_in}
@@ -82,14 +77,3 @@ pub read-ok : (bytes : List ℕ) (sheet : Sheet) → (outcome sheet_lines bytes)
 unfolding sheet_in
 read-ok bytes sheet none stood =
     ap (λ v. unless_refused v (sheet_of (lines_of bytes))) none ∙ ap (λ s. Ok s) (sym stood)
-
--- the first line that is refused
-pub read-err : (bytes : List ℕ) (left old new : Option (List ℕ)) (stopped : Stop Form) (result : SheetFault)
-    → RanUntil sheet_lines bytes left old new stopped → result ≡ sheet_fault stopped
-    → (sheet_in bytes ≡ Err result) ⊎ (result ≡ fault.Memory)
-unfolding sheet_in
-read-err bytes left old new (stop.BadLine line why) result ran e =
-    inl (ap (λ o. unless_refused o.verdict (sheet_of (lines_of bytes))) ran.verdict ∙ ap (λ f. Err f) (sym e))
-read-err bytes left old new stop.ReadFault result ran e = inr e
-read-err bytes left old new stop.WriteFault result ran e = inr e
-read-err bytes left old new stop.Memory result ran e = inr e

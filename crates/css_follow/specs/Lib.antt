@@ -1,6 +1,5 @@
 pub mod Following
 pub mod Listening
-pub mod Words
 pub mod SheetLines
 pub mod Sheets
 pub mod Marks
@@ -9,4 +8,3 @@ pub mod Widths
 pub mod Measuring
 pub mod Reading
 pub mod Standing
-pub mod FaultWords

@@ -2,10 +2,6 @@
 use Rattle.std.specs.Prelude.{◌≡◌, ℕ, if◌then◌else◌, List, [], ◌∷◌, ◌++◌, Some, Result, Ok, Err}
 use Rattle.css_lines.specs.declared.reader.LineFault.{LineFault}
 use Rattle.css_lines.specs.declared.reader.LineFault.TheVariants.{Refused}
-use Rattle.css_lines.specs.declared.ending.Stop.{Stop}
-use Rattle.css_lines.specs.declared.ending.Stop.TheVariants as stop
-use Rattle.css_follow.specs.declared.fault.SheetFault.{SheetFault}
-use Rattle.css_follow.specs.declared.fault.SheetFault.TheVariants as fault
 use Rattle.css_follow.specs.declared.line.Form.{Form}
 use Rattle.css_follow.specs.declared.line.SheetLine.{SheetLine}
 use Rattle.css_follow.specs.declared.line.SheetLine.TheVariants.{Announce, Measure}
@@ -25,8 +21,3 @@ with_line sheet line = if has_room sheet line then Ok (grown sheet line) else Er
 -- the reader stands for these lines: it has their sheet
 abbrev pub Stands : SheetLines → List (List ℕ) → Type 0
 Stands lines before = lines.sheet ≡ sheet_of before
-
--- the fault that a stop is
-abbrev pub sheet_fault : Stop Form → SheetFault
-sheet_fault (stop.BadLine line why) = fault.Line line
-sheet_fault _ = fault.Memory

@@ -1,50 +1,39 @@
 -- The grammar of a sheet's lines.
-use Rattle.std.specs.Prelude.{ℕ, ◌==◌, ℤ, if◌then◌else◌, List, [], ◌∷◌, Option, Some, None, Result, Ok, Err}
-use Rattle.std.specs.Prelude.{bytes_eq, codes}
-use Rattle.css_num.specs.Words.{whole_number_of, signed_number_of}
-use Rattle.css_lines.specs.declared.reader.LineFault.{LineFault}
-use Rattle.css_lines.specs.declared.reader.LineFault.TheVariants.{Refused}
-use Rattle.css_follow.specs.declared.line.Form.{Form}
+use Rattle.std.specs.Prelude.{ℕ, ◌==◌, if◌then◌else◌, List, Result, Ok, Err, bytes_eq, codes}
+use Rattle.css_schedule.specs.declared.fault.LineFault.{LineFault}
+use Rattle.css_schedule.specs.declared.fault.LineFault.TheVariants.{Form}
+use Rattle.css_schedule.specs.Words.{◌>>=◌, word_at, number_at, integer_at, text_at, all_read, words_of}
 use Rattle.css_follow.specs.declared.line.SheetLine.{SheetLine}
 use Rattle.css_follow.specs.declared.line.SheetLine.TheVariants.{Announce, Measure}
-use Rattle.css_follow.specs.Words.{words_of, is_word}
 
 -- a line, or that there is none of these bytes
 abbrev pub Reading : Type 0
-Reading = Result SheetLine (LineFault Form)
+Reading = Result SheetLine LineFault
 
--- the bytes are outside the grammar
-abbrev pub refused : Reading
-refused = Err (Refused (record {}))
+-- `TICK NAME` of `cue`, where TICK is signed and has at most 18 digits
+unfoldable pub cue_of : List (List ℕ) → Reading
+cue_of words = do
+  tick ← integer_at 18 words
+  name ← text_at tick.1
+  end ← all_read name.1
+  Ok (Announce (record { tick = tick.0; name = name.0 }))
 
--- a cue at this tick, where there is one, with this name
-abbrev pub cue_of : Option ℤ → List ℕ → Reading
-cue_of None name = refused
-cue_of (Some tick) name = if is_word name then Ok (Announce (record { tick = tick; name = name })) else refused
+-- `COUNT` of `meter`, which is 1 to 1,000,000
+unfoldable pub meter_of : List (List ℕ) → Reading
+meter_of words = do
+  count ← number_at 1000001 words
+  end ← all_read count.1
+  if count.0 == 0 then Err Form else Ok (Measure count.0)
 
--- a meter of so many intervals, at least one
-abbrev pub meter_of : Option ℕ → Reading
-meter_of None = refused
-meter_of (Some count) = if count == 0 then refused else Ok (Measure count)
+-- the line with this name and these words after it
+unfoldable pub named : List ℕ → List (List ℕ) → Reading
+named name words =
+    if bytes_eq name (codes "cue") then cue_of words
+    else if bytes_eq name (codes "meter") then meter_of words
+    else Err Form
 
--- `TICK NAME`, where TICK is signed and has at most 18 digits
-abbrev pub cue_of_words : List (List ℕ) → Reading
-cue_of_words (tick ∷ name ∷ []) = cue_of (signed_number_of tick 18) name
-cue_of_words _ = refused
-
--- `COUNT`, which is 1 to 1,000,000
-abbrev pub meter_of_words : List (List ℕ) → Reading
-meter_of_words (count ∷ []) = meter_of (whole_number_of count 1000001)
-meter_of_words _ = refused
-
--- `cue TICK NAME` or `meter COUNT`
-abbrev pub line_of_words : List (List ℕ) → Reading
-line_of_words [] = refused
-line_of_words (verb ∷ words) =
-    if bytes_eq verb (codes "cue") then cue_of_words words
-    else if bytes_eq verb (codes "meter") then meter_of_words words
-    else refused
-
--- the line that bytes are, without the line feed
+-- the line that bytes are, without the line feed, or that they are none
 unfoldable pub line_of : List ℕ → Reading
-line_of bytes = line_of_words (words_of bytes)
+line_of bytes = do
+  name ← word_at (words_of bytes)
+  named name.0 name.1

@@ -5,8 +5,6 @@ use Rattle.std.specs.List.{flat_map}
 use Rattle.css_lines.specs.declared.reader.Refusal.{Refusal}
 use Rattle.css_lines.specs.Lines.{lines_of}
 use Rattle.css_lines.specs.Meaning.{Meaning, outcome}
-use Rattle.css_follow.specs.declared.fault.SheetFault.{SheetFault}
-use Rattle.css_follow.specs.declared.fault.SheetFault.TheVariants.{Line}
 use Rattle.css_follow.specs.declared.line.Form.{Form}
 use Rattle.css_follow.specs.declared.line.SheetLine.{SheetLine}
 use Rattle.css_follow.specs.declared.line.SheetLine.TheVariants.{Announce, Measure}
@@ -62,10 +60,10 @@ sheet_lines = record {
 }
 
 -- the sheet, where no line is refused
-abbrev pub unless_refused : Option (ℕ × Refusal Form) → Sheet → Result Sheet SheetFault
+abbrev pub unless_refused : Option (ℕ × Refusal Form) → Sheet → Result Sheet ℕ
 unless_refused None sheet = Ok sheet
-unless_refused (Some verdict) sheet = Err (Line verdict.0)
+unless_refused (Some verdict) sheet = Err verdict.0
 
--- the sheet that bytes are, or the first line that is outside the grammar
-unfoldable pub sheet_in : List ℕ → Result Sheet SheetFault
+-- the sheet that bytes are, or the number of the first line that is outside the grammar
+unfoldable pub sheet_in : List ℕ → Result Sheet ℕ
 sheet_in bytes = unless_refused (outcome sheet_lines bytes).verdict (sheet_of (lines_of bytes))

@@ -5,7 +5,6 @@
 #![tactic(auto)]
 
 mod cues;
-mod fault;
 mod follower;
 mod line;
 mod listens;
@@ -15,13 +14,11 @@ mod notes;
 mod reading;
 mod sheet;
 mod waiting;
-mod words;
 
 pub use cues::Cues;
-pub use fault::SheetFault;
 pub use follower::Follower;
 pub use line::Form;
 pub use listens::{Before, Listens, Nobody};
 pub use meter::Meter;
-pub use reading::{SheetLines, read_sheet};
+pub use reading::SheetLines;
 pub use sheet::{Cue, CueList, Sheet};

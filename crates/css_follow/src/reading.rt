@@ -1,15 +1,11 @@
-ghost use Rattle.std.specs.Prelude.{◌≡◌, [], Ok};
-ghost use Rattle.css_num.specs.Gives.{GivesBy, LeavesBy};
+ghost use Rattle.std.specs.Prelude.{[]};
+ghost use Rattle.css_num.specs.Gives.{LeavesBy};
 ghost use Rattle.css_lines.specs.declared.reader.LineFault.TheVariants as lacks;
-ghost use Rattle.css_follow.specs.declared.fault.SheetFault.TheVariants as faults;
-ghost use Rattle.css_follow.specs.Sheets.{sheet_in};
-ghost use Rattle.css_follow.specs.Reading.{with_line, sheet_fault};
+ghost use Rattle.css_follow.specs.Reading.{with_line};
 
-use crate::fault::SheetFault;
 use crate::line::{Form, SheetLine, read_line};
 use crate::sheet::Sheet;
-use css_lines::{LineFault, Lines, PIECE, Stop, drive};
-use css_outside::{NeverFailsSink, NeverFailsSource};
+use css_lines::{LineFault, Lines};
 use std::alloc::Global;
 
 /// The most cues of a sheet.
@@ -22,6 +18,11 @@ const LONGEST_LINE: usize = 4096;
 const LONGEST_INPUT: u64 = 67_108_864;
 
 /// Reads a cue sheet line by line.
+///
+/// It has lines `cue TICK NAME`, at most 1,000 of them, and at most one line `meter COUNT`. Each ends with a line feed,
+/// which the last one may lack; exactly one space stands between two words. TICK is signed with at most 18 digits,
+/// NAME is a word of bytes from `!` to `~`, and COUNT is 1 to 1,000,000. A sheet may be empty. A line has at most 4,096
+/// bytes without its line feed, and a sheet at most 67,108,864.
 #[derive(Drop)]
 pub struct SheetLines {
     alloc: Global,
@@ -100,41 +101,14 @@ impl Lines for SheetLines {
         text: &[u8],
         _out: &mut Vec<u8>,
     ) -> Result<(), LineFault<Form>> {
-        let line = read_line(self.alloc, text)?;
-        add(&mut self.sheet, line)
+        match read_line(self.alloc, text) {
+            Ok(line) => add(&mut self.sheet, line),
+            Err(css_schedule::LineFault::Form) => Err(LineFault::Refused(Form)),
+            Err(css_schedule::LineFault::Memory) => Err(LineFault::Memory),
+        }
     }
 
     fn finish(&mut self, _out: &mut Vec<u8>) -> Result<(), LineFault<Form>> {
         Ok(())
-    }
-}
-
-// The fault that a stop is. Devices in memory that never fail don't stop the reading.
-fn fault_of(stop: Stop<Form>) -> SheetFault
-    ensures { result ≡ sheet_fault stop }
-{
-    match stop {
-        Stop::BadLine { line, .. } => SheetFault::Line(line),
-        Stop::ReadFault | Stop::WriteFault | Stop::Memory => SheetFault::Memory,
-    }
-}
-
-/// Reads a cue sheet.
-///
-/// It has lines `cue TICK NAME`, at most 1,000 of them, and at most one line `meter COUNT`. Each ends with a line feed,
-/// which the last one may lack; exactly one space stands between two words. TICK is signed with at most 18 digits,
-/// NAME is a word of bytes from `!` to `~`, and COUNT is 1 to 1,000,000. A sheet may be empty. A line has at most 4,096
-/// bytes without its line feed, and a sheet at most 67,108,864.
-///
-/// `Line` names the first line that is outside this grammar.
-pub fn read_sheet(alloc: Global, bytes: &[u8]) -> Result<Sheet, SheetFault>
-    ensures { GivesBy (λ x. x) faults.Memory result (sheet_in bytes.now) }
-{
-    let mut source = NeverFailsSource::new(alloc, bytes, PIECE)?;
-    let mut sink = NeverFailsSink::new(alloc, PIECE)?;
-    let mut lines = SheetLines::new(alloc);
-    match drive(alloc, &mut source, &mut sink, &mut lines) {
-        Ok(()) => Ok(lines.sheet()),
-        Err(stop) => Err(fault_of(stop)),
     }
 }

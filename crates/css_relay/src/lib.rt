@@ -10,7 +10,7 @@ mod middle;
 mod relay;
 mod ticket;
 
-pub use css_companion::{CompanionConfig, CompanionEvent, CompanionFault};
+pub use css_companion::CompanionConfig;
 pub use css_model::WcFault;
 pub use css_num::{Memory, Span};
 pub use fault::RelayFault;

@@ -1,22 +1,16 @@
-ghost use Rattle.std.specs.Prelude.{◌≡◌, ◌≤◌, ◌<◌, ◌+◌, ℕ, [], ◌∷◌, Ok, max, take, drop};
-ghost use Rattle.std.specs.Prelude.{IfOk, IfErr, IfSome, OnOk, OnErr};
+ghost use Rattle.std.specs.Prelude.{◌≡◌, ◌≤◌, ◌<◌, ℕ, [], ◌∷◌, Ok, max, take, drop};
+ghost use Rattle.std.specs.Prelude.{IfOk, OnOk, OnErr};
 ghost use Rattle.std.specs.Borrow.{sem};
 ghost use Rattle.std.specs.Str.{IsUtf8};
-ghost use Rattle.css_num.specs.Gives.{GivesBy};
 ghost use Rattle.css_model.specs.declared.Why.TheVariants as why;
 ghost use Rattle.css_model.specs.Numbers.{max_error};
-ghost use Rattle.css_model.specs.Wire.{encoded, decoded, request_at, stamp_bytes};
-ghost use Rattle.css_model.specs.History.{Entry, History, Clock, Sent, Took, Slept, accepted_answers};
-ghost use Rattle.css_span.specs.WallSpans.{wall_span, IsNear};
+ghost use Rattle.css_model.specs.Wire.{decoded, stamp_bytes};
+ghost use Rattle.css_model.specs.History.{History, Clock, Took, accepted_answers};
 ghost use Rattle.css_wc.specs.Datagrams.{HasNoFault};
 ghost use Rattle.css_client.specs.Landings.{judged_of, landing_of, IsRefusal};
-ghost use Rattle.css_client.specs.Standing.{AcceptsTheTruth, ContainsTheWall};
+ghost use Rattle.css_client.specs.Standing.{AcceptsTheTruth};
 ghost use Rattle.css_cii.specs.Texts.{IsUtf8State};
-ghost use Rattle.css_companion.specs.Contents.{CarriesNoMemory};
-ghost use Rattle.css_companion.specs.Standing.{own_of, asleep, wanted_by};
-ghost use Rattle.css_companion.specs.Steps as steps;
-ghost use Rattle.css_companion.specs.declared.binding.Binding.TheVariants.{WallClock};
-ghost use Rattle.css_companion.specs.declared.fault.CompanionFault.TheVariants as faults;
+ghost use Rattle.css_companion.specs.Standing.{own_of, wanted_by};
 ghost use Rattle.css_relay.specs.Agreeing.{Agrees, Compares, Holds};
 ghost use Rattle.css_agree.specs.Disagreements.{IsPossibleAt};
 ghost use Rattle.css_span.specs.Frontiers.{Answers};
@@ -35,7 +29,7 @@ use crate::ticket::RelayTicket;
 use css_agree::{Agree, AgreeFault};
 use css_cii::State;
 use css_client::Landing;
-use css_companion::{Binding, Companion, CompanionConfig, CompanionEvent, CompanionFault};
+use css_companion::{Companion, CompanionConfig};
 use css_model::{LIMIT, Message, Stamp};
 use css_num::{Memory, Span, Text};
 use css_span::{Answer, Local};
@@ -115,22 +109,6 @@ impl Relay {
         &mut self.companion
     }
 
-    /// The request to send to the television, where the clock reads so now: [`Companion::ask`].
-    pub fn ask(&mut self, reading: u64) -> [u8; 32]
-        requires range { reading < LIMIT }
-        requires floor { self.old.companion.client.floor ≤ reading }
-        ensures request { result ≡ encoded (request_at reading) }
-        ensures stands { (history : History) (peer : ℕ) → StandsFor self.old.companion history
-            → StandsFor self.new.companion (Sent peer result ∷ Clock why.Ask reading ∷ history) }
-        ensures wc_url { self.new.wc_url ≡ self.old.wc_url }
-        ensures keeps { self.new.companion ≡ record self.old.companion { client = self.new.companion.client } }
-        ensures own { own_of self.new.companion ≡ own_of self.old.companion }
-        ensures floor { self.new.companion.client.floor ≡ reading }
-        ensures after_sleep { self.new.companion.client.after_sleep ≡ reading + 1 }
-    {
-        self.companion.ask(reading)
-    }
-
     /// Takes in a datagram of the television that landed when the clock read so: [`Companion::land`].
     pub fn land(&mut self, bytes: &[u8], reading: u64) -> Result<Landing, Memory>
         requires range { reading < LIMIT }
@@ -182,61 +160,6 @@ impl Relay {
         if self.companion.kept() == 0 {
             self.agree.forget();
         }
-    }
-
-    /// The relay slept: [`Companion::slept`]. It knows the wall clock again once the television answered it.
-    pub fn slept(&mut self)
-        ensures stands { (history : History) → StandsFor self.old.companion history
-            → StandsFor self.new.companion (Slept ∷ history) }
-        ensures value { self.new ≡ record self.old {
-          companion = record self.old.companion { client = asleep self.old.companion.client };
-        } }
-        ensures own { own_of self.new.companion ≡ own_of self.old.companion }
-        ensures floor { self.new.companion.client.floor
-            ≡ max self.old.companion.client.floor self.old.companion.client.after_sleep }
-        ensures next_floor { self.new.companion.client.floor ≤ self.old.companion.client.floor + 1 }
-    {
-        self.companion.slept();
-    }
-
-    /// The span of the television's wall clock, in nanoseconds: [`Companion::wall`].
-    pub fn wall(&self, reading: u64) -> Option<Span>
-        requires range { reading < LIMIT }
-        requires floor { self.now.companion.client.floor ≤ reading }
-        ensures span { (history : History) → StandsFor self.now.companion history → result
-            ≡ wall_span (own_of self.now.companion) reading (accepted_answers (own_of self.now.companion) history) }
-        ensures holds { ContainsTheWall self.now.companion.client reading result }
-        ensures near { IfSome result IsNear }
-    {
-        self.companion.wall(reading)
-    }
-
-    /// Takes in what happened at the sessions with the television: [`Companion::step_under`]. Of the two addresses the
-    /// wall clock's alone binds a relay, since it opens no CSS-TS: a text that moves `tsUrl` is taken like any other.
-    pub fn step(&mut self, event: CompanionEvent) -> Result<Option<Text>, CompanionFault>
-        requires { steps.IsEvent event }
-        ensures answer { GivesBy (λ owed. owed) faults.Memory result
-            (steps.owed_under WallClock self.old.companion event) }
-        ensures goes_on { steps.GoesOn result self.old.companion self.new.companion
-            (steps.stepped_under WallClock self.old.companion event) }
-        ensures fault { IfErr result CarriesNoMemory }
-        ensures wc_url { self.new.wc_url ≡ self.old.wc_url }
-        ensures client { self.new.companion.client ≡ self.old.companion.client }
-        ensures setup { self.new.companion.setup ≡ self.old.companion.setup }
-        ensures stands { (history : History) (entry : Entry) → StandsFor self.old.companion history
-            → steps.IsEntryOf event entry history
-            → steps.UnlessMemory result (StandsFor self.new.companion (entry ∷ history)) }
-    {
-        self.companion.step_under(Binding::WallClock, event)
-    }
-
-    /// The state that the television told, with the television's own addresses: [`Companion::state`].
-    pub fn state(&self) -> &State
-        ensures value { result.now ≡ self.now.companion.state }
-        ensures utf8 { IsUtf8State result.now }
-        ensures meaning { (history : History) → StandsFor self.now.companion history → result.now ≡ state_of history }
-    {
-        self.companion.state()
     }
 
     /// The state that the relay tells: that of the television, with `udp://HOST:PORT` of the relay as `wcUrl` where the

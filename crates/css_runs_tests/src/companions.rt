@@ -9,9 +9,11 @@ use crate::runs::{NO_MEMORY, assert_told, companion, recorded};
 use crate::scripts::outside_of;
 use css_companion::Report;
 use css_drive::{Before, Listens, Nobody};
-use css_follow::{Cues, Follower, Meter, Sheet, read_sheet};
+use css_follow::{Cues, Follower, Meter, Sheet, SheetLines};
+use css_lines::{PIECE, drive};
 use css_memory::MemorySink;
 use css_num::{Memory, Text};
+use css_outside::{NeverFailsSink, NeverFailsSource};
 use std::alloc::Global;
 use std::process::Abort;
 
@@ -116,6 +118,16 @@ impl Follower for Lacking {
     }
 }
 
+/// The sheet of these lines.
+fn sheet_of(rt: &impl Abort, alloc: Global, lines: &[u8]) -> Sheet {
+    let mut source = NeverFailsSource::new(alloc, lines, PIECE).expect(rt, NO_MEMORY);
+    let mut sink = NeverFailsSink::new(alloc, PIECE).expect(rt, NO_MEMORY);
+    let mut reader = SheetLines::new(alloc);
+    let ended = drive(alloc, &mut source, &mut sink, &mut reader);
+    assert!(rt; ended.is_ok(), "a sheet");
+    reader.sheet()
+}
+
 /// Has followers follow a sheet through the run of a row.
 fn assert_followed<F: Listens>(
     rt: &impl Abort,
@@ -124,8 +136,9 @@ fn assert_followed<F: Listens>(
     sheet: &[u8],
     followers: &mut F,
 ) {
-    let sheet = read_sheet(alloc, sheet).expect(rt, "a sheet");
-    followers.prepare(&sheet).expect(rt, NO_MEMORY);
+    followers
+        .prepare(&sheet_of(rt, alloc, sheet))
+        .expect(rt, NO_MEMORY);
     assert_row(rt, alloc, row, followers);
 }
 

@@ -11,5 +11,5 @@ pub returns-clause-value : goal.returns-clause-value
 returns-clause-value g c =
     let run = c.in-Err.ensures in
     rw c.line_status.ensures
-    (none_at script_in (λ bad. bad) bad_line (λ bad. tt) script_lines (λ line why. (line, why_of why)) script-bad
+    (none_at script_in bad_line (λ bad. tt) script_lines (λ line why. (line, why_of why)) script-bad
     _ _ _ _ (λ bad all. (bad, refl, all)) c.in-Err.stop run.counted_writes run.ran)

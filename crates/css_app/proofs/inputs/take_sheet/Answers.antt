@@ -1,6 +1,5 @@
 use Rattle.std.proofs.Common.{ap, refl}
 use Rattle.css_follow.specs.Sheets.{sheet_in, sheet_lines, sheet_of, unless_refused}
-use Rattle.css_follow.specs.declared.fault.SheetFault.TheVariants.{Line}
 use Rattle.css_follow.specs.declared.line.Form.{Form}
 use Rattle.css_follow.proofs.SheetsRead.{read-ok}
 use Rattle.css_lines.specs.Lines.{lines_of}
@@ -24,6 +23,6 @@ unfolding sheet_in
 returns-clause-value g c =
     let run = c.in-Err.ensures in
     rw c.sheet_status.ensures
-    (none_at sheet_in Line BadSheet (λ bad. tt) sheet_lines (λ line why. line)
+    (none_at sheet_in BadSheet (λ bad. tt) sheet_lines (λ line why. line)
     (λ bytes line why e. ap (λ v. unless_refused v (sheet_of (lines_of bytes))) e) _ _ _ _
     (λ bad all. (bad, refl, all)) c.in-Err.stop run.counted_writes run.ran)

@@ -1,6 +1,5 @@
 use Rattle.std.proofs.Common.{refl, inl, inr}
 use Rattle.css_follow.specs.Sheets.{sheet_in}
-use Rattle.css_follow.specs.declared.fault.SheetFault.TheVariants.{Line}
 use Rattle.css_status.specs.declared.status.Status.TheVariants.{BadSheet}
 use Rattle.css_app.proofs.Commands.{as_due, driven_tells, took_none}
 use Rattle.css_app.proofs.live.companion.Goals as goal
@@ -8,7 +7,7 @@ use Rattle.css_app.proofs.live.companion.Goals as goal
 -- the sheet was not read
 pub returns-in-Err : goal.returns-in-Err
 returns-in-Err g c =
-    let none = took_none sheet_in Line BadSheet (λ bad. tt) _ c.in-Err.status c.in-Err.ensures.value
+    let none = took_none sheet_in BadSheet (λ bad. tt) _ c.in-Err.status c.in-Err.ensures.value
     c.in-Err.ensures.counted in
     record {
       ran = inl ((refl, refl, refl), c.in-Err.ensures.value);

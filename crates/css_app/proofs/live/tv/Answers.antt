@@ -7,7 +7,7 @@ use Rattle.css_app.proofs.live.tv.Goals as goal
 -- the script was not read
 pub returns-in-Err : goal.returns-in-Err
 returns-in-Err g c =
-    let none = took_none script_in (λ bad. bad) bad_line (λ bad. tt) _ c.in-Err.status c.in-Err.ensures.value
+    let none = took_none script_in bad_line (λ bad. tt) _ c.in-Err.status c.in-Err.ensures.value
     c.in-Err.ensures.counted in
     record {
       ran = inl (refl, c.in-Err.ensures.value);

@@ -2,12 +2,12 @@ use Rattle.std.proofs.Common.{◌∙◌, ◌++◌, ap, sym, refl}
 use Rattle.std.specs.List.{flat_map, list_all}
 use Rattle.css_follow.specs.Announcing.{Announcing}
 use Rattle.css_follow.specs.Standing.{news_at, is_done}
-use Rattle.css_follow.proofs.Marks.{marked-next, said-cues, ends-cues, says-cues, heard-cues, keeps-cues}
+use Rattle.css_follow.proofs.Marks.{AreMarked-next, said-cues, ends-cues, says-cues, heard-cues, keeps-cues}
 use Rattle.css_follow.proofs.cues.CuesFollower.told.Goals as goal
 
 pub invariant_of-self-2 : goal.invariant_of-self-2
 invariant_of-self-2 c =
-    marked-next c.self.inside.notes.items _ c.self.inside.list.items _ c.args.report.now c.in_ok-text.text
+    AreMarked-next c.self.inside.notes.items _ c.self.inside.list.items _ c.args.report.now c.in_ok-text.text
     c.self.invariant c.in_ok-take_note.ensures.notes c.mark_all.ensures
 
 pub returns-clause-heard : goal.returns-clause-heard
