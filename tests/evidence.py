@@ -144,7 +144,7 @@ def good(room):
         tv.end()
     told = report(lines, room)
     answers = lines.count(b'"event":"answer"')
-    check("a good television, live: no fault and no contradiction", answers > 60 and NONE in told
+    check("a good television, live: no fault and no contradiction", answers > 20 and NONE in told
           and FALSE not in told and "No datagram and no text was refused" in told, f"{answers} answers")
     drift = re.search(r"drifted by ([+-][\d.]+) to ([+-][\d.]+) ppm", told)
     check("its drift lies within what the report says", drift and float(drift[1]) <= 490 <= float(drift[2]),

@@ -8,7 +8,8 @@ from report_pairs import answer_of, bound, drifts, has_width, jump, request_of
 PROVED, COUNTED = "proved", "counted"
 MOST = 10  # So many faults of a kind are told, and so many moments of what happened often.
 SHORT = {"few": "too few answers came to say what", "oscillator": "a worse oscillator",
-         "set": "a clock that was set", "one": "one wrong answer", "set or one": "a clock that was set, or one wrong answer", "none": "nothing of these"}
+         "set": "a clock that was set", "one": "one wrong answer",
+         "set or one": "a clock that was set, or one wrong answer", "none": "nothing of these"}
 KINDS = {1: "responses", 2: "responses before a follow-up", 3: "follow-ups"}
 
 # A sentence, whether it is proved, and the lines that stand below it.
