@@ -49,7 +49,7 @@ class Run:
     def __init__(self):
         self.lines = self.garbled = self.visits = self.watches = self.reports = self.known = 0
         self.first = self.last = self.state = None
-        self.greatest = 0
+        self.greatest, self.pending = 0, set()
         self.kinds, self.causes, self.dials = (collections.Counter() for _ in range(3))
         self.stretches, self.faults, self.ends, self.slept, self.widths = [], [], [], [], []
         self.addresses = {"wcUrl": {}, "tsUrl": {}, "timelines": {}}
@@ -85,6 +85,7 @@ class Run:
     def on_visit(self, said):
         self.watches += said["number"] == 1
         self.visits, self.state = self.visits + 1, None
+        self.flush()
         self.begin(said["number"])
 
     def on_slept(self, said):
@@ -92,8 +93,17 @@ class Run:
         self.note(self.slept, f"the machine slept before the reading {said['reading']}")
 
     def on_dial(self, said):
-        if said["outcome"] == "failed":
+        """A dial has no answer until its handshake is done: that counts only where the session never opens."""
+        if said["outcome"] == "open":
+            self.pending.discard(said["service"])
+        elif said["why"] == "no answer":
+            self.pending.add(said["service"])
+        else:
             self.dials[said["service"], said["why"]] += 1
+
+    def flush(self):
+        self.dials.update((service, "no answer") for service in self.pending)
+        self.pending.clear()
 
     def on_state(self, said):
         state, before = said["state"], self.state
@@ -165,4 +175,5 @@ def read(file):
     run = Run()
     for line in file:
         run.take(line)
+    run.flush()
     return run

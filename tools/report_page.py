@@ -55,7 +55,7 @@ def axes(scale, unit):
         value = scale.low + part * (scale.high - scale.low)
         y = y_of(scale, value)
         marks.append(f'<path class="rule" d="M{LEFT} {y:.1f}H{WIDE - 10}"/><text x="{LEFT - 6}" y="{y + 4:.1f}" '
-                     f'text-anchor="end">{value / unit[0]:.6g} {unit[1]}</text>')
+                     f'text-anchor="end">{value / unit[0]:.3g} {unit[1]}</text>')
     for part in (0, 0.25, 0.5, 0.75, 1):
         at = scale.begin + part * (scale.end - scale.begin)
         marks.append(f'<text x="{x_of(scale, at):.1f}" y="{HIGH - 6}" text-anchor="{"end" if part == 1 else "middle"}">'

@@ -10,7 +10,8 @@ from answers import DATAGRAM, SECOND, written
 F = 256_000_000  # Errors are parts of it.
 GREATEST = 25_600_000  # The greatest error that a set can declare, which is 100,000 ppm.
 ROOM = 60_000_000  # So many bytes are handed to `agree` at once; it takes somewhat more.
-AROUND = 30  # So many answers before a contradiction, and so many after it, say what explains it.
+AROUND = 30  # So many answers before a contradiction, and so many after it, say what explains it;
+NEAR = 5  # or at least so many, and all from the older of both on, where that many say that nothing does.
 
 # What the clock of the companion keeps, in 1/256 ppm and in nanoseconds.
 Local = collections.namedtuple("Local", "error precision")
@@ -26,8 +27,8 @@ class Contradiction:
         self.stretch, self.reading, self.first, self.second = stretch, reading, first, second
         self.low, self.high = ends
         self.excess = self.low - self.high
-        # The verdict, the fits on which it stands, and the least error that reconciles both.
-        self.verdict, self.fits, self.reconciles, self.named = None, {}, None, None
+        # The verdict and the drift around it, the least error that reconciles both, and whether the watch named them.
+        self.verdict = self.drift = self.reconciles = self.named = None
 
     def newer(self):
         """Which of both counts from a later reading."""
@@ -166,17 +167,25 @@ def explain(found, run, local):
     that was set, or one answer that is wrong."""
     newer, stretch = found.newer(), found.stretch
     kept = stretch.kept()
-    at = next(place for place, each in enumerate(kept) if each is newer)
-    before, after = kept[max(0, at - AROUND):at], kept[at + 1:at + 1 + AROUND]
-    follows = run.stretches[stretch.index + 1:stretch.index + 2]
+    at, older = (min(place for place, each in enumerate(kept) if each is one)
+                 for one in (newer, found.second if newer is found.first else found.first))
+    after, follows = kept[at + 1:], run.stretches[stretch.index + 1:stretch.index + 2]
     if stretch.why == "disagree" and follows and follows[0].visit == stretch.visit + 1:
-        after = (after + follows[0].kept())[:AROUND]
-    near = bound(kept, local)
-    found.fits = {"oscillator": is_even([*before, newer, *after], local, 1e6 * GREATEST / F),
-                  "set": is_even(before, local, near) and is_even([newer, *after], local, near),
-                  "one": is_even([*before, *after], local, near)}
-    found.drift = drift([*before, newer, *after], local)
-    found.verdict = verdict(found.fits, len(before), len(after))
+        after = after + follows[0].kept()
+    for count in (AROUND, min(AROUND, max(NEAR, at - older))):
+        judge(found, kept[max(0, at - count):at], after[:count], local)
+        if found.verdict != "none":
+            return
+
+
+def judge(found, before, after, local):
+    """What explains it by these answers before the newer one, and those after it."""
+    newer = found.newer()
+    near = bound([*before, newer, *after], local)
+    fits = {"oscillator": is_even([*before, newer, *after], local, 1e6 * GREATEST / F),
+            "set": is_even(before, local, near) and is_even([newer, *after], local, near),
+            "one": is_even([*before, *after], local, near)}
+    found.drift, found.verdict = drift([*before, newer, *after], local), verdict(fits, len(before), len(after))
 
 
 def verdict(fits, before, after):

@@ -157,7 +157,7 @@ def the_texts(run):
                   *(f"{name} was null {times(count)}" for name, count in run.nulls.most_common()))
     yield counted(f"CSS-TS: {many(texts['control'], 'control timestamp')}, {texts['unavailable']} texts without a "
                   f"timeline, and {texts['unread']} that can't be read.",
-                  *(f"the speed was {speed} {times(count)}" for speed, count in sorted(run.speeds.items())))
+                  *(f"the speed {speed} came {times(count)}" for speed, count in sorted(run.speeds.items())))
 
 
 def the_faults(run, tells_all):
@@ -183,7 +183,7 @@ def the_contradictions(run, found, left, options, local):
     if len(found) > 1:
         yield proved(f"{len(found)} visits have answers that contradict each other.")
         kinds = collections.Counter(SHORT[each.verdict] for each in found)
-        yield counted("What explains them:", *(f"{count} times {kind}" for kind, count in kinds.most_common()))
+        yield counted("What explains them:", *(f"{times(count)} {kind}" for kind, count in kinds.most_common()))
     yield from doubts(run, found, left, local)
     told = found if options.all else found[:MOST]
     for each in told:
