@@ -130,7 +130,7 @@ def ways(room):
                 for at, way in enumerate(names)}
         for way, end in made.items():
             bad, said = end.result()
-            check(f"the report on {way} is that of TESTING.md", not bad, bad and (bad, said))
+            check(f"the report on {way} is that of TESTING.md", not bad, (bad, said) if bad else "")
 
 
 def good(room):
@@ -181,6 +181,8 @@ def made_up(room):
 
 def planted(told, lines):
     """That this script sees a wrong pair: an answer that is another one, and two that changed places."""
+    if not is_right(told, lines):
+        return  # It has failed already.
     first, second = (re.search(rf"originate {times[0]}, .*\n.*\n.*\n.*", told)[0] for times in pairs(lines)[0])
     changed = told.replace(first, "@").replace(second, first).replace("@", second)
     others = [said for said in map(json.loads, lines) if said["event"] == "answer"][:1]
