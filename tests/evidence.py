@@ -208,7 +208,8 @@ def wrong_local(room):
     lines = b"".join(Made(even(37)).make(50).lines)
     told, right = report(lines, room, "--local-error", "25600"), report(lines, room)
     check("other local numbers than the watch's are noticed",
-          "50 answers have another width" in told and "another width" not in right)
+          "50 answers have another width" in told and "\nproved  " not in told
+          and "another width" not in right and "\nproved  " in right)
     garbled = report(lines[:-40] + b"\n[]\n\xff\n{\"event\":\"end\"}\n", room)
     check("lines that can't be read are counted", "4 lines of " in garbled and NONE in garbled)
 

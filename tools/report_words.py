@@ -177,27 +177,28 @@ def the_faults(run, tells_all):
 
 def the_contradictions(run, found, left, options, local):
     judged = sum(len(stretch.found) for stretch in run.stretches) - left
+    others = sum(not has_width(exchange, local) for exchange in answers(run))
+    sure = counted if others else proved
     if not found:
-        yield proved(f"No two of the {many(judged, 'answer')} contradict each other, of those that a visit had since "
-                     "its last sleep.")
+        yield sure(f"No two of the {many(judged, 'answer')} contradict each other, of those that a visit had since "
+                   "its last sleep.")
     if len(found) > 1:
-        yield proved(f"{len(found)} visits have answers that contradict each other.")
+        yield sure(f"{len(found)} visits have answers that contradict each other.")
         kinds = collections.Counter(SHORT[each.verdict] for each in found)
         yield counted("What explains them:", *(f"{times(count)} {kind}" for kind, count in kinds.most_common()))
-    yield from doubts(run, found, left, local)
+    yield from doubts(run, found, left, others, local)
     told = found if options.all else found[:MOST]
     for each in told:
-        yield from one_contradiction(run, each, local)
+        yield from one_contradiction(run, each, sure, local)
     if len(told) < len(found):
         yield counted(f"--all tells the {len(found) - len(told)} others as well.")
 
 
-def doubts(run, found, left, local):
+def doubts(run, found, left, others, local):
     """What keeps the contradictions from being all, or from being proved."""
     if left:
         yield counted(f"{many(left, 'answer')} weren't looked at: they are the oldest of visits with too many for "
                       "`css agree`.")
-    others = sum(not has_width(exchange, local) for exchange in answers(run))
     if others:
         yield counted(f"{many(others, 'answer')} have another width than by --local-error {local.error} and "
                       f"--local-precision {local.precision}: give those of the watch, or nothing here is proved.")
@@ -208,13 +209,13 @@ def doubts(run, found, left, local):
                           "agree` finds none that do.")
 
 
-def one_contradiction(run, found, local):
+def one_contradiction(run, found, sure, local):
     when = clock(found.reading - run.first)
-    yield proved(f"{when}, visit {found.stretch.visit}: two answers can't both be true, by {found.excess} ns.",
-                 f"by the first the wall clock is at {found.low} or later at the reading {found.reading}",
-                 *exchange_lines(found.first),
-                 f"by the second it is at {found.high} or earlier",
-                 *exchange_lines(found.second))
+    yield sure(f"{when}, visit {found.stretch.visit}: two answers can't both be true, by {found.excess} ns.",
+               f"by the first the wall clock is at {found.low} or later at the reading {found.reading}",
+               *exchange_lines(found.first),
+               f"by the second it is at {found.high} or earlier",
+               *exchange_lines(found.second))
     if found.named is False:
         yield counted("The watch named two others.")
     yield counted(explanation(found, local))
