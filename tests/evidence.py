@@ -146,11 +146,11 @@ def ways(room):
 
 def good(room):
     """A good television, live, with loss and delay, and an oscillator that is nearly as bad as it declares."""
-    tv = Set(PORT + 90)
+    tv = Set(PORT + 97)
     tv.loss, tv.slow = 0.1, 500_000
     tv.set_drift(0, 490)
     try:
-        lines = watched(PORT + 90, 12)
+        lines = watched(PORT + 97, 12)
     finally:
         tv.end()
     told = report(lines, room)
