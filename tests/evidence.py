@@ -169,7 +169,7 @@ def made_up(room):
     for name, wall in CLOCKS.items():
         lines = Made(wall, loss=0.2).make(10_000).lines
         told = report(b"".join(lines), room)
-        check(f"{name}: no contradiction in 10,000 answers", f"No two of the 10000 answers {NONE}" in told, told[:0])
+        check(f"{name}: no contradiction in 10,000 answers", f"No two of the 10000 answers {NONE}" in told)
     cases = [("an oscillator that is 3 times worse", even(1500), {}, "A worse oscillator explains it", "1500.0"),
              ("the same, with follow-ups", even(1500), {"follows": True}, "A worse oscillator explains it", "1500.0"),
              ("a clock that is set by 2 ms", even(37, 2_000_000, 20 * SECOND + 5), {},

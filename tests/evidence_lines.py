@@ -25,9 +25,8 @@ def even(ppm, jump=0, when=0):
 def uneven(ppm, period):
     """A clock that is so many ppm fast for a time, and as slow for the next."""
     def wall(time):
-        whole, rest = divmod(time, 2 * period)
-        gained = rest if rest < period else 2 * period - rest
-        return WALL + time + gained * ppm // 10**6 + 0 * whole
+        rest = time % (2 * period)
+        return WALL + time + min(rest, 2 * period - rest) * ppm // 10**6
     return wall
 
 
