@@ -172,7 +172,7 @@ def wrong(browser, source, port):
     feeder.join()
     browser.until(f"kept.lines === {len(feeder.lines)}")
     browser.settled()
-    check("the television was wrong in each way", len(source.said) == source.WAYS, source.said)
+    check("the television was wrong in each way", len(source.said) == len(source.WAYS), source.said)
     lines = [json.dumps(line, separators=(",", ":")) for line in feeder.lines]
     lacks = [told for told in TOLD if not any(told in line for line in lines)]
     check("each of them is told", not lacks, lacks)

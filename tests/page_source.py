@@ -84,16 +84,17 @@ class Program:
 class Wrong:
     """`watch` of a program beside tools/wrong_tv.py, which is wrong so often, once in so many seconds."""
 
-    TOOL, EVERY, WAYS = pathlib.Path(__file__).resolve().parent.parent / "tools" / "wrong_tv.py", 3, 6
+    TOOL, EVERY = pathlib.Path(__file__).resolve().parent.parent / "tools" / "wrong_tv.py", 3
+    WAYS = ("text", "control", "strange", "clock", "address", "closed")
 
     def __init__(self, words, port):
         self.words, self.port = words, port
 
     def lines(self):
-        tv = subprocess.Popen([sys.executable, self.TOOL, "--port", str(self.port), "--every", str(self.EVERY)],
-                              text=True, stdout=subprocess.PIPE)
+        tv = subprocess.Popen([sys.executable, self.TOOL, "--port", str(self.port), "--every", str(self.EVERY),
+                               *self.WAYS], text=True, stdout=subprocess.PIPE)
         often = ["--report-every", str(EVERY), "--ask-every", str(EVERY)]
-        seconds = str(self.EVERY * self.WAYS * 3 // 2 + 2)
+        seconds = str(self.EVERY * len(self.WAYS) * 3 // 2 + 2)
         cii = f"ws://127.0.0.1:{self.port}/cii"
         watch = subprocess.Popen([*self.words, "watch", "--cii", cii, *often, "--seconds", seconds],
                                  text=True, stdout=subprocess.PIPE)

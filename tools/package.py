@@ -29,7 +29,8 @@ import library
 
 TOP, TOOLS = build.TOP, build.TOP / "tools"
 # Each script that is installed, and the name of its command.
-COMMANDS = {"page.py": "css-page", "find.py": "css-find", "announce.py": "css-announce"}
+COMMANDS = {"page.py": "css-page", "find.py": "css-find", "announce.py": "css-announce",
+            "report.py": "css-report"}
 SHARE = Path("share/css")
 # The files and folders that an install made, one a line; the folders end with a slash.
 RECORD = SHARE / "installed"

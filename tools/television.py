@@ -7,10 +7,10 @@ import struct
 import threading
 import time
 
-from peer import CLOSE, FAULTS, TIMELINE, Listener, end_of, frame, greet, nanos, stamp, state
+from peer import CLOSE, FAULTS, PATIENCE, TIMELINE, Listener, end_of, frame, greet, nanos, stamp, state
 
 SECOND = 10**9
-ERROR = 128_000
+ERROR, PLAIN = 128_000, 37  # What its clock declares in 1/256 ppm, and by how many ppm it is fast.
 RATE = {"unitsPerSecond": 90000, "unitsPerTick": 1}
 HOST, TV = "127.0.0.1", "192.168.1.20"
 PRECISION_BYTE = 0xEC  # 2^-20 s
@@ -29,16 +29,22 @@ class Television:
 
     def __init__(self):
         self.begins = [(0, 1_764_403_200 * SECOND)]  # From when on the clock counts from where.
+        self.drifts = [(0, PLAIN)]  # From when on it is so many ppm fast.
         self.on, self.told = True, True
         self.channel, self.control, self.rate = 1, None, RATE
         self.show(0, 900_000, 1)
 
     def wall(self, time):
         begin = max(begin for begin in self.begins if begin[0] <= time)[1]
-        return begin + time + time * 37 // 10**6
+        ends = [since for since, _ in self.drifts[1:]] + [time]
+        return begin + time + sum((min(end, time) - since) * ppm // 10**6
+                                  for (since, ppm), end in zip(self.drifts, ends) if since < time)
 
     def set_clock(self, time, by):
         self.begins.append((time, self.begins[-1][1] + by))
+
+    def set_drift(self, time, ppm):
+        self.drifts.append((time, ppm))
 
     def show(self, time, tick, speed):
         self.control = {"contentTime": str(tick), "timelineSpeedMultiplier": speed,
@@ -107,6 +113,7 @@ class Set(Television):
         self.greets, self.first = "well", None  # What becomes of a session of CSS-CII, and what it is told first.
         self.instead = {}  # Properties that are told otherwise.
         self.loss, self.follows, self.mute = 0, False, False
+        self.slow, self.late = 0, 0  # So many ns a request is under way, and follow-ups tell a time so much later.
         self.refused, self.flooded = [], 0  # What it sent that is refused.
         self.controls, self.sessions, self.setups, self.sent = [], [], [], set()
         self.peers, self.sender, self.request, self.senders = {"CII": [], "TS": []}, None, None, {}
@@ -141,6 +148,8 @@ class Set(Television):
             self.sender, self.request = sender, data[8:16]
             if self.mute or self.loses():
                 return
+            if self.slow:
+                time.sleep(self.slow / SECOND)
             received = self.wall(time.monotonic_ns())
             kind = 2 if self.follows else 1
             sent = self.wall(time.monotonic_ns())
@@ -150,7 +159,7 @@ class Set(Television):
 
     def say_answer(self, clock, kind, received, sent):
         """A response has its receive value as its transmit value where a follow-up tells the better one."""
-        transmit = received if kind == 2 else sent
+        transmit = received if kind == 2 else sent + self.late if kind == 3 else sent
         self.sent.add((kind, nanos(self.request), received, transmit))
         if not self.loses():
             clock.say(answer_of(kind, self.request, received, transmit), self.sender)
@@ -325,6 +334,23 @@ class Set(Television):
             self.set_clock(now, round(seconds * SECOND))
             self.show(now, 5_000_000, 1)
             self.tell(self.control)
+
+    def run_fast(self, ppm):
+        """The wall clock is so many ppm fast from now on."""
+        with self.lock:
+            self.set_drift(time.monotonic_ns(), ppm)
+
+    def begin_anew(self, **otherwise):
+        """Hangs up CSS-TS, and does otherwise once somebody has begun anew. It answers nothing meanwhile, so nobody who
+        has an answer of before gets one of after."""
+        setups, end = len(self.setups), time.monotonic() + PATIENCE
+        self.mute = True
+        self.hang_up("TS")
+        while len(self.setups) == setups and time.monotonic() < end:
+            time.sleep(0.01)
+        with self.lock:
+            self.__dict__.update(otherwise)
+            self.mute = False
 
     def move_clock(self):
         before, self.clock = self.clock, WallClock(self, self.another_port())
