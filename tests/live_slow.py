@@ -44,7 +44,7 @@ def read_all(peer):
 
 def try_it(program):
     """A television says long texts, each of which waits in part. A peer has taken all of it before the next."""
-    begun = time.monotonic() + 2
+    begun = time.monotonic() + 10  # By then the peer is there, also on a busy machine.
     script = long_programme(1) + long_programme(2)
     script += "".join(f"{int((begun + at * EACH) * 1e9)} change {at % 2 + 1}\n" for at in range(TEXTS))
     child = start(program, ["tv", "--port", str(PORT), "--turns", "1000000"], script)
@@ -64,7 +64,7 @@ def slow_reader(check, program):
         check.skip("a slow reader", why)
         return
     own = alone([sys.executable, os.path.abspath(__file__), *program])
-    done = subprocess.run(own, capture_output=True, check=False, timeout=300)
+    done = subprocess.run(own, capture_output=True, check=False, timeout=600)
     told = json.loads(done.stdout or "[0, 0, \"it didn't run\"]")
     if isinstance(told, str):
         check.skip("a slow reader", told)
