@@ -7,6 +7,7 @@ from peer import PATIENCE, UPGRADED, Listener, end_of, greet, is_closed, state, 
 
 PACES = (1, 3, 9)  # How many times as long a run has for what it does, where a busy machine left it too little.
 LASTING = ("--seconds", "--turns", "--report-every")
+HELD = []
 
 
 class Recorder:
@@ -92,10 +93,11 @@ class Clock:
 
 
 def closed_port():
-    """A port at which nobody listens."""
-    with socket.socket(socket.AF_INET, socket.SOCK_STREAM) as one:
-        one.bind(("127.0.0.1", 0))
-        return one.getsockname()[1]
+    """A port at which nobody listens. It is held, so that no other run gets it."""
+    one = socket.socket(socket.AF_INET, socket.SOCK_STREAM)
+    one.bind(("127.0.0.1", 0))
+    HELD.append(one)
+    return one.getsockname()[1]
 
 
 def hold(peer, seconds=60):
