@@ -85,7 +85,7 @@ class Prober:
 
     def end(self):
         self.ends.set()
-        told = self.told.get(timeout=PATIENCE)
+        told = self.told.get(timeout=10 * PATIENCE)
         self.process.join()
         return told
 
