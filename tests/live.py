@@ -8,16 +8,16 @@ A television is watched by a prober, which asks its wall clock every 2 ms all th
 clock of this machine, so the time from the sending of a request to its receive value is told exactly: the greatest of
 them bounds the longest turn. Time in which the television waited for a processor is taken off, as Linux tells it. A
 machine may stall otherwise too, so an attack with a long turn, or with requests that aren't answered, is made again:
-what the program does comes again, and of five attacks the best one counts. Each check prints a line. The exit status
-is 1 where one failed.
+what the program does comes again, and of five attacks the best one counts. A run that had no time for what it was to
+tell is made again at a slower pace. Each check prints a line. The exit status is 1 where one failed.
 """
 import json, multiprocessing, os, socket, struct, sys, time
 
 from checks import Checks, ports, program
 from live_peer import (CLOSE, PATIENCE, PING, SETUP, TEXT, Peer, connection, dial, frame, nanos, request, serves,
-                       sets_up, stamp, start, television)
+                       sets_up, start, television)
 from live_dials import dials
-from live_edge import Beside, dial_soon
+from live_edge import Beside, dial_soon, patiently, slower, stop
 from live_ends import ends
 from live_hosts import published_hosts
 from live_names import named_hosts
@@ -86,7 +86,7 @@ class Prober:
 
     def end(self):
         self.ends.set()
-        told = self.told.get(timeout=PATIENCE)
+        told = self.told.get(timeout=10 * PATIENCE)
         self.process.join()
         return told
 
@@ -130,20 +130,22 @@ def fragments(port):
 
 
 def datagrams(port):
-    udp = socket.socket(socket.AF_INET, socket.SOCK_DGRAM)
-    udp.settimeout(PATIENCE)
+    """A request is sent again where no answer comes for a second: beside the prober's it may have had no room."""
+    udp, asked, answer = socket.socket(socket.AF_INET, socket.SOCK_DGRAM), [], bytes(32)
+    udp.settimeout(1)
     udp.connect(("127.0.0.1", port))
     for bad in (b"", b"x", bytes(31), bytes(33), bytes(2000), b"\1" + bytes(31), b"\0\1" + bytes(30)):
         udp.send(bad)
-    before = time.monotonic_ns()
-    udp.send(request(before))
-    try:
-        answer = udp.recv(64)
-    except OSError:
-        answer = bytes(32)
+    while answer == bytes(32) and len(asked) < PATIENCE:
+        asked.append(time.monotonic_ns())
+        udp.send(request(asked[-1]))
+        try:
+            answer = udp.recv(64)
+        except OSError:
+            pass
     after = time.monotonic_ns()
-    received, sent = nanos(answer[16:24]), nanos(answer[24:32])
-    check("bad datagrams aren't answered, and a request is", answer[8:16] == stamp(before) and len(answer) == 32)
+    before, received, sent = (nanos(answer[at:at + 8]) for at in (8, 16, 24))
+    check("bad datagrams aren't answered, and a request is", before in asked and len(answer) == 32)
     check("its times are in order", before <= received <= sent <= after)
     check("type, precision and error are declared", answer[:8] == struct.pack(">BBbxI", 0, 1, -20, 128000))
 
@@ -171,12 +173,23 @@ def refusals(port):
 
 
 def slow_head(port):
+    begun = time.monotonic()
     peer = Peer(connection(port), True)
     peer.conn.sendall(b"GET /cii HT")
-    begun = time.monotonic()
     ended = peer.has_ended()
     took = time.monotonic() - begun
-    check("a handshake that stops is dropped after 5 s", ended and 4.5 < took < 9, f"{took:.2f} s")
+    check("a handshake that stops is dropped after 5 s", ended and 4.9 < took < 15, f"{took:.2f} s")
+
+
+def ending_of(port, *frames):
+    """How a session of CSS-TS ends on which these frames are said. It may be cut off before all of them are."""
+    peer = dial(port + 1, "/ts")
+    try:
+        for words in frames:
+            peer.say(*words)
+    except OSError:
+        pass
+    return peer.ending()
 
 
 def long_messages(port):
@@ -184,25 +197,11 @@ def long_messages(port):
     text = json.dumps(SETUP).encode()
     peer.say(text + b" " * (262_144 - len(text)))
     check("a text of 262,144 bytes is taken", "contentTime" in peer.told())
-    peer = dial(port + 1, "/ts")
-    peer.say(text + b" " * (262_145 - len(text)))
-    check("one more byte is closed with 1009", peer.ending() == 1009)
-    peer = dial(port + 1, "/ts")
-    try:
-        peer.say(b"a" * 20_971_520)
-    except OSError:
-        pass
-    check("a message of 20 MiB is closed with 1009", peer.ending() == 1009)
-    peer = dial(port + 1, "/ts")
-    try:
-        for _ in range(400):
-            peer.say(b"a" * 1000, TEXT if _ == 0 else 0, False)
-    except OSError:
-        pass
-    check("so are fragments without end", peer.ending() == 1009)
-    peer = dial(port + 1, "/ts")
-    peer.say(b"\xff\xfe")
-    check("a text that isn't UTF-8 is closed with 1007", peer.ending() == 1007)
+    check("one more byte is closed with 1009", ending_of(port, [text + b" " * (262_145 - len(text))]) == 1009)
+    check("a message of 20 MiB is closed with 1009", ending_of(port, [b"a" * 20_971_520]) == 1009)
+    fragments = [(b"a" * 1000, 0 if at else TEXT, False) for at in range(400)]
+    check("so are fragments without end", ending_of(port, *fragments) == 1009)
+    check("a text that isn't UTF-8 is closed with 1007", ending_of(port, [b"\xff\xfe"]) == 1007)
 
 
 def crowds(port):
@@ -329,10 +328,10 @@ def hosts(port):
         check(f"a television at the host '{host}'", told[0] == wanted, told)
 
 
-def addresses(port):
+def addresses(check, times, port):
     """A companion reaches a television by some of these, and has no answer by the others."""
     child = television(PROGRAM, port, SCRIPT)
-    rest = ["--reports", "1", "--report-every", "3000000000"]
+    rest = slower(["--reports", "1", "--report-every", "3000000000"], times)
     urls = (("ws://127.0.0.1:{}/cii", "1 ticks "), ("ws://localhost:{}/cii", "1 ticks "),
             ("ws://user:word@127.0.0.1:{}/cii", "1 ticks "), ("ws://127.0.0.1:{}/cii#part", "1 ticks "),
             ("ws://127.0.0.1:0/cii", "1 none NoAnswer"), ("ws://127.0.0.1:{}/other", "1 none NoAnswer"),
@@ -343,32 +342,32 @@ def addresses(port):
         check(f"a companion of {url.format('PORT')}", companion.wait(60) == 0 and line.startswith(wanted), line)
     told = status_of(["companion", "--cii", f"http://127.0.0.1:{port}/cii", *rest])
     check("a companion of another scheme", told[0] == 1, told)
-    child.kill()
-    child.wait()
+    stop(child)
 
 
-def pair(port):
-    child = start(PROGRAM, ["pair", "--port", str(port), "--reports", "5", "--report-every", "500000000", "--ask-every",
-                            "50000000", "--turns", "3000"], SCRIPT)
+def pair(check, times, port):
+    words = ["--reports", "5", "--report-every", "500000000", "--ask-every", "50000000", "--turns", "3000"]
+    child = start(PROGRAM, ["pair", "--port", str(port), *slower(words, times)], SCRIPT)
     lines = child.stdout.read().decode().splitlines()
     told = child.wait(60), lines[-1:]
     check("a pair makes its reports", told[0] == 0 and len(lines) == 5 and lines[-1].startswith("5 ticks "), told)
 
 
-def relay(port):
+def relay(check, times, port):
     """A companion that knows a relay alone has its wall clock and state from it, and its timeline from the other."""
     child = television(PROGRAM, port, SCRIPT, [])
-    words = ["relay", "--cii", f"ws://127.0.0.1:{port}/cii", "--port", str(port + 2)]
-    relay = start(PROGRAM, [*words, "--turns", "1200", "--ask-every", "50000000"])
+    words = ["relay", "--cii", f"ws://127.0.0.1:{port}/cii", "--port", str(port + 2), "--ask-every", "50000000"]
+    relay = start(PROGRAM, [*words, "--turns", "1000000"])
     dial_soon(port + 2, "/cii").conn.close()
-    companion = start(PROGRAM, ["companion", "--cii", f"ws://127.0.0.1:{port + 2}/cii", "--reports", "4",
-                                "--report-every", "500000000", "--ask-every", "50000000"])
+    rest = slower(["--reports", "4", "--report-every", "500000000", "--ask-every", "50000000"], times)
+    companion = start(PROGRAM, ["companion", "--cii", f"ws://127.0.0.1:{port + 2}/cii", *rest])
     lines = companion.stdout.read().decode().splitlines()
     told = companion.wait(60), lines[-1:]
     check("a companion of a relay", told[0] == 0 and len(lines) == 4 and lines[-1].startswith("4 ticks "), told)
-    check("a relay makes its turns", relay.wait(60) == 0, relay.stderr.read().decode().strip())
-    child.kill()
-    child.wait()
+    stop(relay)
+    number, told = status_of([*words, *slower(["--turns", "600"], times)])
+    check("a relay makes its turns", number == 0, told)
+    stop(child)
     number, told = status_of([*words, "--turns", "20"])
     # a hint follows the status
     is_told = told.splitlines()[:1] == ["css: unreachable after 20 turns"]
@@ -395,9 +394,9 @@ if __name__ == "__main__":
         against_television()
         in_use(PORT)
         hosts(PORT + 2)
-        addresses(PORT + 4)
-        pair(PORT + 6)
+        patiently(check, addresses, PORT + 4)
+        patiently(check, pair, PORT + 6)
         against_companion(PORT + 8, PROGRAM, check)
-        relay(PORT + 28)
+        patiently(check, relay, PORT + 28)
     edge(PORT + 32)
     sys.exit(check.end())

@@ -1,8 +1,13 @@
-"""What the checks of the edge share: plain servers for a companion, what a run takes, and checks beside one another."""
-import os, select, socket, struct, threading, time
+"""What the checks of the edge share: plain servers for a companion, what a run takes, checks beside one another, and
+checks at a pace that a busy machine keeps."""
+import os, select, socket, struct, sys, threading, time
 
-from live_peer import CLOSE, PING, dial, start
-from peer import PATIENCE, UPGRADED, Listener, end_of, greet, state, upgraded  # noqa: F401 (for the others)
+from live_peer import CLOSE, PING, PONG, dial, nanos, start
+from peer import PATIENCE, UPGRADED, Listener, end_of, greet, is_closed, state, upgraded  # noqa: F401 (for the others)
+
+PACES = (1, 3, 9)  # How many times as long a run has for what it does, where a busy machine left it too little.
+LASTING = ("--seconds", "--turns", "--report-every")
+HELD = []
 
 
 class Recorder:
@@ -17,9 +22,20 @@ class Recorder:
     def skip(self, *told):
         self.kept.append((True, told))
 
+    def failed(self):
+        """The checks that failed."""
+        return [told for is_skipped, told in self.kept if not is_skipped and not told[1]]
+
     def tell(self, check):
         for is_skipped, told in self.kept:
             (check.skip if is_skipped else check)(*told)
+
+    def make(self, call, *words):
+        """Makes the checks of a call, and one more where it doesn't go through."""
+        try:
+            call(self, *words)
+        except Exception as error:
+            self(f"{call.__name__} goes through", False, repr(error))
 
 
 class Beside:
@@ -27,17 +43,10 @@ class Beside:
 
     def __init__(self, calls):
         self.recorders = [Recorder() for _ in calls]
-        self.threads = [threading.Thread(target=self.make, args=(recorder, *call), daemon=True)
+        self.threads = [threading.Thread(target=recorder.make, args=call, daemon=True)
                         for recorder, call in zip(self.recorders, calls)]
         for thread in self.threads:
             thread.start()
-
-    @staticmethod
-    def make(recorder, call, *words):
-        try:
-            call(recorder, *words)
-        except Exception as error:
-            recorder(f"{call.__name__} goes through", False, repr(error))
 
     def tell(self, check):
         """Waits for all of them, and tells their checks in order."""
@@ -46,32 +55,49 @@ class Beside:
             recorder.tell(check)
 
 
+def patiently(check, call, *words):
+    """Makes the checks of a call that go by a time, until all of them hold: what a program does wrong it does again,
+    and a busy machine needn't. The call is handed how many times as long it has for it."""
+    for times in PACES:
+        recorder = Recorder()
+        recorder.make(call, times, *words)
+        if not recorder.failed() or times == PACES[-1]:
+            break
+        print(f"again   {call.__name__}: {recorder.failed()}", file=sys.stderr, flush=True)
+    recorder.tell(check)
+
+
+def slower(words, times):
+    """The words of a run that has so many times as long for what it does."""
+    return [str(int(word) * times) if before in LASTING else word for before, word in zip(["", *words], words)]
+
+
 # ---- servers
 
 class Clock:
-    """A socket of datagrams that answers nothing, and notes when each came."""
+    """A socket of datagrams that answers nothing, and notes the time in each request that came."""
 
     def __init__(self):
         self.socket = socket.socket(socket.AF_INET, socket.SOCK_DGRAM)
         self.socket.bind(("127.0.0.1", 0))
-        self.port, self.times, self.ends = self.socket.getsockname()[1], [], False
+        self.port, self.asked, self.ends = self.socket.getsockname()[1], [], False
         threading.Thread(target=self.take, daemon=True).start()
 
     def take(self):
         while not self.ends:
             if select.select([self.socket], [], [], 0.1)[0]:
-                self.socket.recv(64)
-                self.times.append(time.monotonic())
+                self.asked.append(nanos(self.socket.recv(64)[8:16]))
 
     def end(self):
         self.ends = True
 
 
 def closed_port():
-    """A port at which nobody listens."""
-    with socket.socket(socket.AF_INET, socket.SOCK_STREAM) as one:
-        one.bind(("127.0.0.1", 0))
-        return one.getsockname()[1]
+    """A port at which nobody listens. It is held, so that no other run gets it."""
+    one = socket.socket(socket.AF_INET, socket.SOCK_STREAM)
+    one.bind(("127.0.0.1", 0))
+    HELD.append(one)
+    return one.getsockname()[1]
 
 
 def hold(peer, seconds=60):
@@ -85,6 +111,13 @@ def hold(peer, seconds=60):
         if opcode == CLOSE:
             peer.say(payload, CLOSE)
             return
+
+
+def until_open(peer):
+    """Waits until the other end has a session open: it answers a ping. What comes before is passed over."""
+    peer.say(b"open?", PING)
+    while peer.hear() != (PONG, b"open?"):
+        pass
 
 
 def teller(*texts):
@@ -130,16 +163,6 @@ def processor_times(process):
 def has_ended(child):
     """Whether a run has ended. It is kept, so that its times can be read."""
     return bool(os.waitid(os.P_PID, child.pid, os.WEXITED | os.WNOHANG | os.WNOWAIT))
-
-
-def pauses_of(child, begun, works=False):
-    """How long a run that began then paused: it was on no processor and waited for none. Where it works in its pauses,
-    what it did counts too. One that takes too long is ended."""
-    wait_for(lambda: has_ended(child))
-    took = time.monotonic() - begun
-    used, waited = processor_times(child.pid)
-    stop(child)
-    return took - waited - (0 if works else used)
 
 
 def wait_for(holds, seconds=PATIENCE):

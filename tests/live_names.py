@@ -1,12 +1,13 @@
 """Names of hosts: one with two addresses, and one that nobody knows. They need a file of hosts and a server of names of
-their own, which only root can put in the place of the machine's, for the program alone."""
-import json, os, select, socket, struct, subprocess, tempfile, threading, time
+their own, which only root can put in the place of the machine's, for the program alone. The server is at an address of
+this machine that no other run has taken."""
+import errno, json, os, select, socket, struct, subprocess, tempfile, threading, time
 
-from live_edge import PATIENCE, Beside, Listener, state, stop, teller, wait_for
+from live_edge import PATIENCE, Beside, Listener, patiently, slower, state, stop, teller, wait_for
 from live_peer import TEXT, nanos, stamp, start
 from live_server import Server, state_of, wall
 
-NAME, RESOLVER = "two-homes", "127.0.0.77"
+NAME, RESOLVERS = "two-homes", [f"127.0.77.{last}" for last in range(1, 255)]
 UNKNOWN, SHARED, SILENT = "nobody.example", "neither.example", "silent.example"
 LONG = ("--seconds", "3600", "--reports", "1000000")
 LOOKS_UP = 6  # How long a look-up waits for an answer, in seconds.
@@ -18,9 +19,18 @@ class Names:
 
     def __init__(self):
         self.socket = socket.socket(socket.AF_INET, socket.SOCK_DGRAM)
-        self.socket.bind((RESOLVER, 53))
-        self.asked = []
+        self.address, self.asked = self.take(), []
         threading.Thread(target=self.answer, daemon=True).start()
+
+    def take(self):
+        """The first address whose port of names is free."""
+        for address in RESOLVERS:
+            try:
+                self.socket.bind((address, 53))
+                return address
+            except OSError as error:
+                if error.errno != errno.EADDRINUSE or address == RESOLVERS[-1]:
+                    raise
 
     def answer(self):
         while True:
@@ -45,12 +55,12 @@ class Names:
         return [at for at, asked in self.asked if asked == name]
 
 
-def words_with(folder):
-    """The words that run a program with a name of two addresses, and with the server of names above."""
+def words_with(folder, names):
+    """The words that run a program with a name of two addresses, and with this server of names."""
     with open(os.path.join(folder, "hosts"), "w", encoding="ascii") as file:
         file.write(f"127.0.0.1 localhost\n::1 {NAME}\n127.0.0.1 {NAME}\n")
     with open(os.path.join(folder, "resolv.conf"), "w", encoding="ascii") as file:
-        file.write(f"nameserver {RESOLVER}\noptions attempts:1 timeout:{LOOKS_UP}\n")
+        file.write(f"nameserver {names.address}\noptions attempts:1 timeout:{LOOKS_UP}\n")
     return ["unshare", "-m", "sh", "-c", MOUNT, folder]
 
 
@@ -71,11 +81,11 @@ class Named(Server):
         peer.say(json.dumps({**state_of(self.port), **told}).encode(), TEXT)
 
 
-def two_homes(check, program, port, words):
+def two_homes(check, times, program, port, words):
     """A television is at the second of two addresses of a name."""
     server = Named(port)
-    child = start([*words, *program], ["companion", "--cii", f"ws://{NAME}:{port}/cii", "--reports", "5",
-                                       "--report-every", "500000000", "--turns", "3000"])
+    lasting = slower(["--report-every", "500000000", "--turns", "3000"], times)
+    child = start([*words, *program], ["companion", "--cii", f"ws://{NAME}:{port}/cii", "--reports", "5", *lasting])
     lines = child.stdout.read().decode().splitlines()
     last = lines[-1] if lines else child.stderr.read().decode()
     check("a wall clock at the second address of its name is asked", child.wait(PATIENCE) == 0
@@ -179,16 +189,16 @@ def unanswered(check, program, names, words):
 
 def named_hosts(port, program, check):
     with tempfile.TemporaryDirectory() as folder:
-        words = words_with(folder)
         try:
             names = Names()
         except OSError as error:
             check.skip("names of hosts", error)
             return
+        words = words_with(folder, names)
         if addresses(words) != ["::1", "127.0.0.1"]:
             check.skip("names of hosts", "no file can be put in the place of the machine's")
             return
-        Beside([(two_homes, program, port, words),
+        Beside([(patiently, two_homes, program, port, words),
                 (asked_in_turn, program, words, 1, "an answer of the second address"),
                 (asked_in_turn, program, words, 0, "a late answer of the first address"),
                 *[(call, program, names, words) for call in (unknown, shared, unanswered)]]).tell(check)

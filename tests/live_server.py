@@ -1,11 +1,12 @@
 """A television of this program's own, for tests/live.py: plain, and bad in several ways."""
 import json, os, random, select, socket, struct, threading, time
 
-from live_edge import Beside, closed_port, wait_for
+from live_edge import Beside, closed_port, patiently, slower, wait_for
 from live_peer import CLOSE, PING, PONG, TEXT, TIMELINE, Peer, accept_key, stamp, start
 
 OFFSET = 5_000_000_000_000
 START = 900_000
+FALSE = []  # The intervals that weren't true.
 
 
 def state_of(port):
@@ -157,11 +158,11 @@ class Server:
 WORDS = ["--reports", "5", "--report-every", "1000000000", "--ask-every", "50000000", "--turns", "20000", "--record"]
 
 
-def run(port, program, does):
+def run(times, port, program, does):
     """A companion's run against such a television: its reports with the ticks that were true when they were made, its
     status, and what was seen of it. The record tells the reading at which a report was made."""
     server = Server(port, does)
-    child = start(program, ["companion", "--cii", f"ws://127.0.0.1:{port}/cii", *WORDS])
+    child = start(program, ["companion", "--cii", f"ws://127.0.0.1:{port}/cii", *slower(WORDS, times)])
     lines, reading = [], 0
     for line in child.stdout:
         verb, _, rest = line.decode().strip().partition(" ")
@@ -176,17 +177,19 @@ def run(port, program, does):
 
 
 def are_true(lines):
-    """Each interval contains the tick of its reading."""
+    """Whether there are intervals, and each contains the tick of its reading. One that doesn't counts also where its
+    run is tried again."""
     rows = [(line.split(), tick) for line, tick in lines if " ticks " in line]
-    return bool(rows) and all(int(row[2]) <= tick <= int(row[3]) for row, tick in rows)
+    FALSE.extend(row for row, tick in rows if not int(row[2]) <= tick <= int(row[3]))
+    return bool(rows) and not FALSE
 
 
 def widths(lines):
     return [int(line.split()[3]) - int(line.split()[2]) for line, _ in lines if " ticks " in line]
 
 
-def good(check, program, port):
-    lines, status, seen, told = run(port, program, "")
+def good(check, times, program, port):
+    lines, status, seen, told = run(times, port, program, "")
     last = lines[-1][0] if lines else told
     check("a companion makes its reports", status == 0 and len(lines) == 5 and last.startswith("5 ticks "), last)
     check("they are true", are_true(lines), widths(lines))
@@ -196,13 +199,13 @@ def good(check, program, port):
     check("it hangs up in the end", wait_for(lambda: seen.get("ts close") == 1000 and seen.get("cii close") == 1000))
 
 
-def lossy(check, program, port):
-    lines, status, _, _ = run(port, program, "lossy")
+def lossy(check, times, program, port):
+    lines, status, _, _ = run(times, port, program, "lossy")
     check("lost, repeated and reordered answers leave true reports", status == 0 and are_true(lines), widths(lines))
 
 
-def bad(check, program, port, does, wanted, last):
-    lines, status, seen, told = run(port, program, does)
+def bad(check, times, program, port, does, wanted, last):
+    lines, status, seen, told = run(times, port, program, does)
     end = lines[-1][0] if lines else ""
     holds = status == wanted and last in end
     if does == "ts long":
@@ -222,5 +225,5 @@ BAD = (("ts ends", 0, "none SessionClosed"), ("ts cut", 0, "none SessionClosed")
 
 def against_companion(port, program, check):
     """Twenty ports."""
-    Beside([(good, program, port), (lossy, program, port + 2), (nobody, program),
-            *[(bad, program, port + 4 + 2 * at, *one) for at, one in enumerate(BAD)]]).tell(check)
+    Beside([(nobody, program), (patiently, good, program, port), (patiently, lossy, program, port + 2),
+            *[(patiently, bad, program, port + 4 + 2 * at, *one) for at, one in enumerate(BAD)]]).tell(check)

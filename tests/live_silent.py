@@ -6,16 +6,17 @@ import threading, time
 from live_edge import Beside, Clock, Listener, companion, dial_soon, end_of, greet, state, stop, wait_for
 from live_peer import CLOSE, PING, PONG, serves, start
 
-PINGED, CLOSED, OVER = (28, 36), (58, 66), 68
+PINGED, CLOSED, OVER = (29.9, 45), (59.9, 90), 68  # A busy machine is late, and never early.
 MOST = 256
 CONTROL = {"contentTime": "900000", "wallClockTime": "0", "timelineSpeedMultiplier": 1}
 
 
 class Watched:
-    """A session that is read by a thread: when it was pinged first, and when it ended. Pings are answered or not."""
+    """A session that began after a time, and is read by a thread: when it was pinged first, and when it ended, counted
+    from then. Pings are answered or not."""
 
-    def __init__(self, peer, answers):
-        self.peer, self.answers, self.begun = peer, answers, time.monotonic()
+    def __init__(self, begun, peer, answers):
+        self.peer, self.answers, self.begun = peer, answers, begun
         self.pinged = self.ended = None
         threading.Thread(target=self.read, daemon=True).start()
 
@@ -34,7 +35,15 @@ class Watched:
         self.ended = time.monotonic() - self.begun
 
     def wait(self):
-        time.sleep(max(0, self.begun + OVER - time.monotonic()))
+        """Waits until it is over, or has lasted longer than a silent one does."""
+        last = OVER if self.answers else CLOSED[1]
+        wait_for(lambda: self.ended is not None, self.begun + last - time.monotonic())
+
+
+def watched(port, path, answers):
+    """A session that this program dials."""
+    begun = time.monotonic()
+    return Watched(begun, dial_soon(port, path), answers)
 
 
 def is_in(moment, bounds):
@@ -45,31 +54,31 @@ def told(moment):
     return "never" if moment is None else f"after {moment:.1f} s"
 
 
-def is_dropped(check, name, watched):
-    check(f"{name} that says nothing is pinged after 30 seconds", is_in(watched.pinged, PINGED), told(watched.pinged))
-    check(f"{name} that says nothing is closed after 60 seconds", is_in(watched.ended, CLOSED), told(watched.ended))
+def is_dropped(check, name, each):
+    check(f"{name} that says nothing is pinged after 30 seconds", is_in(each.pinged, PINGED), told(each.pinged))
+    check(f"{name} that says nothing is closed after 60 seconds", is_in(each.ended, CLOSED), told(each.ended))
 
 
-def stays(check, name, watched):
-    check(f"{name} that answers pings is pinged and stays", is_in(watched.pinged, PINGED) and watched.ended is None,
-          f"pinged {told(watched.pinged)}, ended {told(watched.ended)}")
+def stays(check, name, each):
+    check(f"{name} that answers pings is pinged and stays", is_in(each.pinged, PINGED) and each.ended is None,
+          f"pinged {told(each.pinged)}, ended {told(each.ended)}")
 
 
 def of_television(check, program, port):
     """A television's peers say nothing, all of them but one, and take all its room."""
     child = start(program, ["tv", "--port", str(port), "--seconds", "3600"], "0 programme dvb://1\n0 change 1\n")
-    silent = {"a peer on /cii": Watched(dial_soon(port, "/cii"), False),
-              "a peer on /ts": Watched(dial_soon(port + 1, "/ts"), False)}
-    good = Watched(dial_soon(port, "/cii"), True)
+    dial_soon(port, "/cii").conn.close()
+    silent = {"a peer on /cii": watched(port, "/cii", False), "a peer on /ts": watched(port + 1, "/ts", False)}
+    good = watched(port, "/cii", True)
     others = [dial_soon(port, "/cii") for _ in range(MOST - 3)]
     for peer in others:
         peer.conn.setblocking(False)  # Nobody reads them: they are those of a process that was stopped.
     codes, _, how = end_of(dial_soon(port, "/cii"))
     check("the 257th session is closed with 1013", codes == [1013], (codes, how))
     good.wait()
-    time.sleep(2)  # The others began a little later.
-    for name, watched in silent.items():
-        is_dropped(check, name, watched)
+    for name, each in silent.items():
+        each.wait()
+        is_dropped(check, name, each)
     stays(check, "a peer", good)
     check("once the silent ones are closed, another peer is served", serves(port))
     stop(child)
@@ -82,16 +91,17 @@ def of_companion(check, program, answers):
     def session(name, text):
         def serve(peer):
             greet(peer)
+            begun = time.monotonic()
             peer.say(text)
-            seen[name] = Watched(peer, answers)
+            seen[name] = Watched(begun, peer, answers)
         return serve
     timestamps = Listener(session("CSS-TS", CONTROL))
     server = Listener(session("CSS-CII", state(clock.port, timestamps.port)))
     child = companion(program, server.port, "--seconds", "3600", "--reports", "1000000")
     wait_for(lambda: len(seen) == 2)
-    for name, watched in sorted(seen.items()):
-        watched.wait()
-        (stays if answers else is_dropped)(check, f"a television on {name}", watched)
+    for name, each in sorted(seen.items()):
+        each.wait()
+        (stays if answers else is_dropped)(check, f"a television on {name}", each)
     check("a companion opens both its sessions", len(seen) == 2, sorted(seen))
     stop(child)
     for one in (clock, timestamps, server):

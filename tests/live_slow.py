@@ -3,11 +3,14 @@
 How much the system keeps for a sender decides how much a program must keep itself, and mostly that is a lot. So this
 runs in a network of its own, in which it is little:
 
-    unshare -r -n python3 tests/own_network.py python3 tests/live_slow.py PROGRAM ..
+    unshare -r -n python3 tests/own_network.py python3 tests/live_slow.py TIMES PROGRAM ..
+
+The texts come so many times as slowly as they could. Two changes that a busy television makes in one turn come to no
+text, so fewer than all may come, and then it is tried again.
 """
 import json, os, select, subprocess, sys, time
 
-from live_edge import PATIENCE, dial_soon, long_programme, stop
+from live_edge import PATIENCE, dial_soon, long_programme, patiently, stop
 from live_peer import Peer, start
 from own_network import alone, why_not
 
@@ -42,11 +45,11 @@ def read_all(peer):
         return texts, count, repr(error)
 
 
-def try_it(program):
+def try_it(times, program):
     """A television says long texts, each of which waits in part. A peer has taken all of it before the next."""
-    begun = time.monotonic() + 2
+    begun = time.monotonic() + 10  # By then the peer is there, also on a busy machine.
     script = long_programme(1) + long_programme(2)
-    script += "".join(f"{int((begun + at * EACH) * 1e9)} change {at % 2 + 1}\n" for at in range(TEXTS))
+    script += "".join(f"{int((begun + at * times * EACH) * 1e9)} change {at % 2 + 1}\n" for at in range(TEXTS))
     child = start(program, ["tv", "--port", str(PORT), "--seconds", "3600"], script)
     fast = dial_soon(PORT, "/cii", room=16384)
     fast.text()
@@ -62,9 +65,13 @@ def slow_reader(check, program):
     why = why_not()
     if why:
         check.skip("a slow reader", why)
-        return
-    own = alone([sys.executable, os.path.abspath(__file__), *program])
-    done = subprocess.run(own, capture_output=True, check=False, timeout=300)
+    else:
+        patiently(check, read_slowly, program)
+
+
+def read_slowly(check, times, program):
+    own = alone([sys.executable, os.path.abspath(__file__), str(times), *program])
+    done = subprocess.run(own, capture_output=True, check=False, timeout=600)
     told = json.loads(done.stdout or "[0, 0, \"it didn't run\"]")
     if isinstance(told, str):
         check.skip("a slow reader", told)
@@ -74,15 +81,15 @@ def slow_reader(check, program):
           texts == TEXTS and end == "it stays", f"{texts} texts of {TEXTS}, {count} bytes, then {end}")
 
 
-def main(program):
+def main(times, program):
     """A sender has 64 KiB at most, where that can be set. Else why it can't."""
     try:
         with open(KEPT, "w", encoding="ascii") as file:
             file.write("4096 16384 65536\n")
     except OSError as error:
         return str(error)
-    return try_it(program)
+    return try_it(times, program)
 
 
 if __name__ == "__main__":
-    print(json.dumps(main(sys.argv[1:])))
+    print(json.dumps(main(int(sys.argv[1]), sys.argv[2:])))

@@ -1,16 +1,17 @@
 """Standard streams that a run is started without, and a standard error that nobody reads."""
 import fcntl, os, signal, subprocess, time
 
-from live_edge import Beside, dial_soon, stop, wait_for
+from live_edge import Beside, dial_soon, patiently, slower, stop, wait_for
 from live_peer import STARTED, connection, serves, start, television
 
 HERE = os.path.dirname(os.path.abspath(__file__))
 CRATES = os.path.join(HERE, "..", "crates")
 SCRIPT = "0 programme dvb://1.2.3\n0 timeline 1 urn:dvb:css:timeline:pts 1 90000 900000\n0 change 1\n"
 STREAMS = {"input": "<&-", "output": ">&-", "error": "2>&-"}
+TIMED = ("watch", "relay")  # They have to reach their television before their time is over.
 REPORTS = ["--report-every", "500000000", "--ask-every", "50000000"]
 PIPE_SIZE, REQUESTS = 16384, 400  # A line has some 70 bytes.
-HANGS = 30  # Only what hangs takes so many seconds.
+HANGS = 60  # Only what hangs takes so many seconds.
 
 
 def example(name):
@@ -33,11 +34,11 @@ def told(child):
 
 # ---- streams that a run is started without
 
-def closed(check, program, name, words, given, wanted):
+def closed(check, times, program, name, words, given, wanted):
     """Each of the three streams is closed in turn: what the status is then. What the run prints without a standard
     error is what it prints anyhow, as far as that is known before."""
     for stream, status in zip(STREAMS, wanted):
-        ended, output, errors = told(start(without(program, [stream], log=True), words, given))
+        ended, output, errors = told(start(without(program, [stream], log=True), slower(words, times), given))
         check(f"{name} without a standard {stream} ends with {status}", ended == status, (ended, output[-200:], errors))
         if stream == "error" and status == 0 and words[:1] == ["watch"]:
             check("and nothing of its log comes into a session", '"event":"end"' not in output, output[-400:])
@@ -190,10 +191,11 @@ def open_states(process):
     return [row[3] for row in rows if f"socket:[{row[9]}]" in held and row[3] in ("01", "08")]
 
 
-def pair_ends(check, program, port):
+def pair_ends(check, times, program, port):
     """A pair's companion has made its reports, and waits for its television. That one can't end before it knows that
     nothing more comes from the companion, or a second is over."""
-    child = start(program, ["pair", "--port", str(port), "--seconds", str(HANGS), "--reports", "6", *REPORTS], SCRIPT)
+    words = ["pair", "--port", str(port), "--seconds", str(HANGS), "--reports", "6", *REPORTS]
+    child = start(program, slower(words, times), SCRIPT)
     last = [child.stdout.readline() for _ in range(6)][-1]
     check("a pair's companion makes its reports", last.startswith(b"6 ticks "), last.decode().strip())
     check("a pair's companion ends its sessions before it waits for its television",
@@ -220,9 +222,9 @@ def standard(port, program, check):
         ("tv", ["tv", at, str(port + 4), "--turns", "20"], SCRIPT, (4, 0, 0)),
         ("pair", ["pair", at, str(port + 6), "--turns", "1000", "--reports", "1", *REPORTS], SCRIPT, (4, 5, 0)),
     ]
-    calls = [(closed, program, *run) for run in runs]
+    calls = [(patiently, closed, program, *run) if run[0] in TIMED else (closed, 1, program, *run) for run in runs]
     if first := first_program():
-        calls.append((closed, [first], "css_first", [], evening, (4, 5, 0)))
+        calls.append((closed, 1, [first], "css_first", [], evening, (4, 5, 0)))
     else:
         check.skip("css_first", "it wasn't built")
     many = ["--seconds", "3600"]
@@ -236,5 +238,5 @@ def standard(port, program, check):
         (slow_status, program),
     ]
     Beside(calls).tell(check)
-    pair_ends(check, program, port + 12)
+    patiently(check, pair_ends, program, port + 12)
     stop(server)

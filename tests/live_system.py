@@ -2,7 +2,7 @@
 another path, few descriptors."""
 import os, subprocess, threading, time
 
-from live_edge import Beside, dial_soon, processor_times, stop
+from live_edge import Beside, dial_soon, patiently, processor_times, slower, stop
 from live_peer import start
 from live_server import Server
 from live_standard import standard
@@ -31,7 +31,7 @@ def unblocking(descriptor):
     return descriptor
 
 
-def quiet_input(check, program):
+def quiet_input(check, _, program):
     """Standard input doesn't block, and comes late and in pieces."""
     with open(SCHEDULE, "rb") as file:
         schedule = file.read()
@@ -92,10 +92,10 @@ def running(program, port):
         stop(child)
 
 
-def first_word(check, program, port, word):
+def first_word(check, times, program, port, word):
     """A pair whose first word is no path of its own file."""
-    words = ["pair", "--port", str(port), "--reports", "3", "--report-every", "700000000", "--ask-every", "50000000",
-             "--turns", "3000"]
+    words = slower(["pair", "--port", str(port), "--reports", "3", "--report-every", "700000000", "--ask-every",
+                    "50000000", "--turns", "3000"], times)
     child = subprocess.Popen([word, *words], executable=program, stdin=subprocess.PIPE, stdout=subprocess.PIPE,
                              stderr=subprocess.PIPE)
     lines, errors = finished(child, SCRIPT.encode())
@@ -104,12 +104,12 @@ def first_word(check, program, port, word):
           child.returncode == 0 and last.startswith("3 ticks "), (child.returncode, last, errors.decode().strip()))
 
 
-def descriptors(check, program, port, most):
+def descriptors(check, times, program, port, most):
     """A companion may have so many descriptors: it makes its reports, or tells that it can't."""
     server = Server(port)
     limited = ["sh", "-c", f'ulimit -n {most}; exec "$@"', "sh", *program]
-    child = start(limited, ["companion", "--cii", f"ws://127.0.0.1:{port}/cii", "--reports", "2", "--report-every",
-                            "900000000", "--ask-every", "50000000", "--turns", "2000"])
+    words = ["--reports", "2", "--report-every", "900000000", "--ask-every", "50000000", "--turns", "2000"]
+    child = start(limited, ["companion", "--cii", f"ws://127.0.0.1:{port}/cii", *slower(words, times)])
     lines, errors = child.stdout.read().decode().splitlines(), child.stderr.read().decode().strip()
     status, last = child.wait(60), lines[-1:] or [""]
     made = status == 0 and " ticks " in last[0]
@@ -127,8 +127,8 @@ def system(port, program, check):
         check.skip("first words that are no path of the program", "a loader runs the program")
         first = ()
     Beside([
-        (quiet_input, program),
+        (patiently, quiet_input, program),
         (slow_output, program),
-        *[(first_word, file, port + 2 * at, word) for at, word in enumerate(first)],
-        *[(descriptors, words, port + 6 + 2 * at, most) for at, most in enumerate((4, 5, 6, 7, 8))],
+        *[(patiently, first_word, file, port + 2 * at, word) for at, word in enumerate(first)],
+        *[(patiently, descriptors, words, port + 6 + 2 * at, most) for at, most in enumerate((4, 5, 6, 7, 8))],
     ]).tell(check)

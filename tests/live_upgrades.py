@@ -1,8 +1,8 @@
 """Handshakes of WebSocket sessions as other programs write them, and the answers to requests that are none."""
 import base64, os, threading, time
 
-from live_edge import (PATIENCE, UPGRADED, Beside, Listener, companion, dial_soon, end_of, greet, processor_times,
-                       stop, upgraded)
+from live_edge import (PATIENCE, UPGRADED, Beside, Listener, companion, dial_soon, end_of, greet, patiently,
+                       processor_times, slower, stop, upgraded)
 from live_peer import Peer, accept_key, connection, start
 from live_words import is_hint
 
@@ -81,7 +81,7 @@ def one_by_one(conn, data):
         conn.sendall(bytes([byte]))
 
 
-def slowly(check, port):
+def slowly(check, _, port):
     """A head of about 400 bytes comes byte by byte."""
     head = head_of(port, (*UPGRADED, "User-Agent: " + "a" * 200))
     try:
@@ -108,7 +108,7 @@ def dripping(port, seconds, ends):
         time.sleep(0.003)
 
 
-def beside_dripping(check, port, process):
+def beside_dripping(check, _, port, process):
     """While sixteen peers drip, another has its session within a second, in which the television isn't kept waiting for
     a processor."""
     ends = threading.Event()
@@ -162,11 +162,11 @@ def at_television(port, program, check):
         (refused, "a head that is too long and has no end", port, long_head, ["431"]),
         (refused, "a head of a thousand lines", port, head_of(port)[:-2] + b"X: a\r\n" * 1000 + b"\r\n",
          ["400", "431"]),
-        (slowly, port),
+        (patiently, slowly, port),
         (binary, port, "/cii"),
         (binary, port + 1, "/ts"),
     ]).tell(check)
-    beside_dripping(check, port, child.pid)
+    patiently(check, beside_dripping, port, child.pid)
     check("the television goes on", child.poll() is None)
     stop(child)
 
@@ -192,7 +192,7 @@ def told_of(program, serve):
     return seen
 
 
-def answered_by(check, program, name, lines, slow=False):
+def answered_by(check, _, program, name, lines, slow=False):
     """A server's answer with these lines makes a session, on which a ping is answered."""
     def serve(peer, seen):
         answer = upgraded(peer.head(), lines)
@@ -205,11 +205,11 @@ def answered_by(check, program, name, lines, slow=False):
     check(name, seen.get("holds", False), seen.get("error", ""))
 
 
-def wrongly_answered(check, program, name, told, instead, words):
+def wrongly_answered(check, times, program, name, told, instead, words):
     """A server's answer of status 101 has something else in the place of what makes a session. What was wrong stands in
     the log and in the hint."""
     server = Listener(lambda peer: peer.conn.sendall(upgraded(peer.head()).replace(told, instead)))
-    child = companion(["env", "CSS_LOG=1", *program], server.port, "--seconds", "5")
+    child = companion(["env", "CSS_LOG=1", *program], server.port, *slower(["--seconds", "5"], times))
     log = child.stderr.read().decode().splitlines()
     status = child.wait(20)
     stop(child)
@@ -239,20 +239,21 @@ def binary_to(check, program):
 
 def at_companion(program, check):
     Beside([
-        (answered_by, program, "a companion takes a list of tokens in Connection", KEPT),
-        (answered_by, program, "a companion takes a Connection of two lines", TWO_LINES),
-        (answered_by, program, "a companion takes an answer that comes byte by byte",
+        (answered_by, 1, program, "a companion takes a list of tokens in Connection", KEPT),
+        (answered_by, 1, program, "a companion takes a Connection of two lines", TWO_LINES),
+        (patiently, answered_by, program, "a companion takes an answer that comes byte by byte",
          (*UPGRADED, "Server: " + "a" * 200), True),
-        (wrongly_answered, program, "a wrong accept", b"Accept: ", b"Accept: x", "its Sec-WebSocket-Accept is wrong"),
-        (wrongly_answered, program, "a Connection without Upgrade", b"Connection: Upgrade", b"Connection: close",
-         "its Connection lacks Upgrade"),
-        (wrongly_answered, program, "an Upgrade to something else", b"websocket", b"h2c",
-         "its Upgrade isn't websocket"),
-        (wrongly_answered, program, "an extension", b"Connection", b"Sec-WebSocket-Extensions: a\r\nConnection",
-         "an extension that nobody asked for"),
-        (wrongly_answered, program, "a subprotocol", b"Connection", b"Sec-WebSocket-Protocol: a\r\nConnection",
-         "a subprotocol that nobody asked for"),
-        (wrongly_answered, program, "another version of HTTP", b"HTTP/1.1", b"HTTP/1.0", "not of HTTP/1.1"),
+        *[(patiently, wrongly_answered, program, *wrong) for wrong in [
+            ("a wrong accept", b"Accept: ", b"Accept: x", "its Sec-WebSocket-Accept is wrong"),
+            ("a Connection without Upgrade", b"Connection: Upgrade", b"Connection: close",
+             "its Connection lacks Upgrade"),
+            ("an Upgrade to something else", b"websocket", b"h2c", "its Upgrade isn't websocket"),
+            ("an extension", b"Connection", b"Sec-WebSocket-Extensions: a\r\nConnection",
+             "an extension that nobody asked for"),
+            ("a subprotocol", b"Connection", b"Sec-WebSocket-Protocol: a\r\nConnection",
+             "a subprotocol that nobody asked for"),
+            ("another version of HTTP", b"HTTP/1.1", b"HTTP/1.0", "not of HTTP/1.1"),
+        ]],
         (origin, program),
         (binary_to, program),
     ]).tell(check)

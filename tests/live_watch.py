@@ -20,7 +20,7 @@ import threading
 import time
 
 from checks import Checks, ports, program
-from live_edge import Beside, companion, processor_times, stop, wait_for
+from live_edge import Beside, companion, is_closed, patiently, processor_times, stop, wait_for
 from live_peer import TIMELINE
 from live_words import told_by
 from own_network import alone, refused_dials, why_not
@@ -239,13 +239,14 @@ def noticed(story, happened):
 
 
 def spaced(tv):
-    """No dial of a kind begins within half a second of the last one. A dial is noted when this program comes to it, so
-    what is told is how long five dials in a row took: at least two seconds, less what the first one waited here."""
-    for kind in ("CII", "WC", "TS"):
+    """No dial of a kind begins within half a second of the last one, so five in a row take two seconds. What is told is
+    how long they took at most: each came when this program noted it, or before. What isn't known is how long the watch
+    was kept from going on with the first one; of the wall clock, until its first request."""
+    for kind, enough in (("CII", 1.8), ("WC", 1.5), ("TS", 1.8)):
         times = tv.dials(kind)
-        least = min((after - before for before, after in zip(times, times[4:])), default=0)
-        check(f"dials of {kind} begin at least 500 ms apart", len(times) > 10 and least > 1.5,
-              f"{len(times)} dials, five of them in {least:.2f} s")
+        least = min((after[1] - before[0] for before, after in zip(times, times[4:])), default=0)
+        check(f"dials of {kind} begin at least 500 ms apart", len(times) > 10 and least >= enough,
+              f"{len(times)} dials, five of them in {least:.2f} s at most")
 
 
 def ended(child, seconds):
@@ -297,7 +298,7 @@ def rest(tv, story, lines):
     count = sum(fault in ("Undecodable Length", "NotAnAnswer", "Unasked") for fault in story.refused)
     check("so are those of a flood, as many as were taken", count > 100 and tv.flooded > 10_000,
           f"{count} of {tv.flooded}")
-    ends = [end for end in tv.ends if end[1:] != ([1000], "in order")]
+    ends = [end for end in tv.ends if not is_closed(*end[1:])]
     check("each session that is hung up has a close with 1000", len(tv.ends) > 20 and not ends, ends or len(tv.ends))
     setup = {"contentIdStem": "", "timelineSelector": TIMELINE}
     check("each setup is the wanted one", tv.setups and all(each == setup for each in tv.setups), len(tv.setups))
@@ -352,12 +353,12 @@ def nobody(check, program):
         b'"cause":"NoAnswer","detail":"CII isn\'t open"' in line for line in reports), len(reports))
 
 
-def no_interval(check, program, port):
-    """A television that tells no addresses; one report is due, or none."""
+def no_interval(check, times, program, port):
+    """A television that tells no addresses; two reports are due, or none."""
     tv = Set(port)
     tv.instead = {"wcUrl": None, "tsUrl": None}
-    for every, count in ((SECOND, 2), (9 * SECOND, 0)):
-        child = companion(program, port, "--seconds", "2", "--report-every", str(every), command="watch")
+    for every, count in ((times * SECOND, 2), (9 * times * SECOND, 0)):
+        child = companion(program, port, "--seconds", str(2 * times), "--report-every", str(every), command="watch")
         events = {"visit", "dial", "state", "report"} if count else {"visit", "dial", "state"}
         ends_so(check, "no report had ticks", child, 16, f"css: no interval in {count} reports", events)
     tv.end()
@@ -381,13 +382,13 @@ def shut_output(check, program, port):
     tv.end()
 
 
-def descriptors(check, program, port):
+def descriptors(check, times, program, port):
     """With too few descriptors for its sockets a watch ends with 14; with enough it has ticks."""
     tv, told = Set(port), []
     for most in (4, 5, 6, 7, 8, 16):
         limited = ["sh", "-c", f'ulimit -n {most}; exec "$@"', "sh", *program]
-        child = companion(limited, port, "--seconds", "4", "--ask-every", str(ASK), "--report-every", str(REPORT),
-                          command="watch")
+        child = companion(limited, port, "--seconds", str(4 * times), "--ask-every", str(ASK), "--report-every",
+                          str(REPORT), command="watch")
         ticks = b'"ticks"' in child.stdout.read()
         status, lines, _ = told_by(child)
         told.append((most, status, ticks, lines[:1]))
@@ -401,11 +402,11 @@ def leaves(check, program, port, wanted=6):
     """A set closes CSS-TS, and says half a turn later where it is now. Where the machine was too busy for that, it is
     tried again."""
     tv, told, tries = Set(port), [], 0
-    child = companion(program, port, "--seconds", "120", "--ask-every", str(ASK), "--report-every", str(REPORT),
+    child = companion(program, port, "--seconds", "600", "--ask-every", str(ASK), "--report-every", str(REPORT),
                       command="watch")
     lines = Lines(child)
     wait_for_ticks(lines, 0, time.monotonic())
-    while len(told) < wanted and tries < 18 and child.poll() is None:
+    while len(told) < wanted and tries < 100 and child.poll() is None:
         tries, ends, before = tries + 1, lines.ends, len(lines.kept)
         took = tv.leave_ts(PAUSE / SECOND / 2)
         wait_for_ticks(lines, ends + 1, time.monotonic())
@@ -419,8 +420,8 @@ def leaves(check, program, port, wanted=6):
 
 
 def statuses(program):
-    Beside([(usages, program), (nobody, program), (no_interval, program, PORT + 20),
-            (shut_output, program, PORT + 30), (descriptors, program, PORT + 70),
+    Beside([(usages, program), (nobody, program), (patiently, no_interval, program, PORT + 20),
+            (shut_output, program, PORT + 30), (patiently, descriptors, program, PORT + 70),
             (leaves, program, PORT + 80)]).tell(check)
 
 

@@ -2,7 +2,7 @@
 hints of words that are those of no command stand in words.py."""
 import os, re, subprocess, threading
 
-from live_edge import Clock, Listener, closed_port, dial_soon, greet, hold, reset, state, stop, teller
+from live_edge import Clock, Listener, closed_port, dial_soon, greet, hold, patiently, reset, state, stop, teller
 from live_peer import start
 
 HINT = "css: hint: "
@@ -140,45 +140,53 @@ def sockets(check, program, port):
     stop(first)
 
 
-def companions(check, program, port):
-    """What a companion's television can do."""
-    def against(name, serve, status, line, hint, *options):
-        server = Listener(serve)
-        child = start(program, ["companion", "--cii", f"ws://127.0.0.1:{server.port}/cii", "--seconds", "3", *options])
-        check_end(check, name, child, status, line, hint)
-        server.end()
+def against(check, times, program, name, serve, status, line, hint):
+    """How a companion's run ends against a server."""
+    server = Listener(serve)
+    cii = f"ws://127.0.0.1:{server.port}/cii"
+    child = start(program, ["companion", "--cii", cii, "--seconds", str(3 * times)])
+    check_end(check, name, child, status, line, hint)
+    server.end()
 
+
+def faults(check, program):
+    """What a companion's television may tell that ends its run."""
     moved = {**state(closed_port()), "wcUrl": "udp://127.0.0.1:9"}
     old = f"udp://127.0.0.1:{closed_port()}"
-    against("a text that is no JSON", teller(b"<html>\xc3\xa4</html>"), 7, "css: cii text 1: not json",
-            re.escape("isn't JSON: <html>??</html>") + "$")
-    against("a text that is no object", teller(b"[]"), 7, "css: cii text 1: not object", re.escape(": []") + "$")
-    against("a long text", teller(b'{"wcUrl":5,' + b"x" * 500), 7, "css: cii text 1: not json", ': {"wcUrl":5,x{69}$')
-    against("a text with a wrong property", teller(b'{"wcUrl":5}'), 7, "css: cii text 1: field wcUrl",
-            'wcUrl .*: {"wcUrl":5}$')
-    against("a moved address", teller({**state(), "wcUrl": old}, moved), 8, "css: moved wcUrl",
-            f"was {old} and is udp://127.0.0.1:9: start the companion again$")
     # the 60 bytes that are shown end within the letter
     far = {**state(), "wcUrl": f"udp://{'a' * 53}\u00e4\u00e4"}
-    against("a moved address of more than ASCII", teller({**state(), "wcUrl": old}, far), 8, "css: moved wcUrl",
-            f"was {old} and is udp://a{{53}}: start")
-    against("an address that is none", teller({**state(), "tsUrl": "nowhere"}), 13, "css: bad url tsUrl",
-            "tsUrl is no address of the form ws:.*: nowhere$")
-    against("a wall clock's that is none", teller({**state(), "wcUrl": "http://h:1"}), 13, "css: bad url wcUrl",
-            "wcUrl is no address of the form udp:.*: http://h:1$")
+    for name, texts, status, line, hint in (
+            ("a text that is no JSON", [b"<html>\xc3\xa4</html>"], 7, "css: cii text 1: not json",
+             re.escape("isn't JSON: <html>??</html>") + "$"),
+            ("a text that is no object", [b"[]"], 7, "css: cii text 1: not object", re.escape(": []") + "$"),
+            ("a long text", [b'{"wcUrl":5,' + b"x" * 500], 7, "css: cii text 1: not json", ': {"wcUrl":5,x{69}$'),
+            ("a text with a wrong property", [b'{"wcUrl":5}'], 7, "css: cii text 1: field wcUrl",
+             'wcUrl .*: {"wcUrl":5}$'),
+            ("a moved address", [{**state(), "wcUrl": old}, moved], 8, "css: moved wcUrl",
+             f"was {old} and is udp://127.0.0.1:9: start the companion again$"),
+            ("a moved address of more than ASCII", [{**state(), "wcUrl": old}, far], 8, "css: moved wcUrl",
+             f"was {old} and is udp://a{{53}}: start"),
+            ("an address that is none", [{**state(), "tsUrl": "nowhere"}], 13, "css: bad url tsUrl",
+             "tsUrl is no address of the form ws:.*: nowhere$"),
+            ("a wall clock's that is none", [{**state(), "wcUrl": "http://h:1"}], 13, "css: bad url wcUrl",
+             "wcUrl is no address of the form udp:.*: http://h:1$")):
+        patiently(check, against, program, name, teller(*texts), status, line, hint)
 
-    def spent(name, serve, hint):
-        against(name, serve, 9, "css: spent after ", "before its last report: " + hint)
 
+def companions(check, program, port):
+    """What a companion's television can do."""
+    faults(check, program)
     clock = Clock()
     silent = Listener(lambda peer: (greet(peer), hold(peer)))
-    television = start(program, ["tv", "--port", str(port), "--seconds", "120"])
+    television = start(program, ["tv", "--port", str(port), "--seconds", "600"])
     dial_soon(port, "/cii").conn.close()
-    spent("no text", lambda peer: (greet(peer), hold(peer)), "the television told no wcUrl")
-    spent("no wcUrl", teller(state()), "the television told no wcUrl")
-    spent("no response", teller(state(clock.port)), "no response came to [1-9][0-9]* requests")
-    spent("no tsUrl", teller(state(port)), "the television told no tsUrl")
-    spent("no control timestamp", teller(state(port, silent.port)), "no control timestamp came")
+    for name, serve, hint in (
+            ("no text", lambda peer: (greet(peer), hold(peer)), "the television told no wcUrl"),
+            ("no wcUrl", teller(state()), "the television told no wcUrl"),
+            ("no response", teller(state(clock.port)), "no response came to [1-9][0-9]* requests"),
+            ("no tsUrl", teller(state(port)), "the television told no tsUrl"),
+            ("no control timestamp", teller(state(port, silent.port)), "no control timestamp came")):
+        patiently(check, against, program, name, serve, 9, "css: spent after ", "before its last report: " + hint)
     television.kill()
     silent.end()
     clock.end()
@@ -187,20 +195,12 @@ def companions(check, program, port):
         peer.head()
         peer.conn.sendall(b"HTTP/1.1 404 Not Found\r\nContent-Length: 0\r\n\r\n")
 
-    for name, serve, hint in (("a server of something else", not_found, "404"),):
-        server = Listener(serve)
-        child = start(program, ["companion", "--cii", f"ws://127.0.0.1:{server.port}/cii", "--seconds", "2"])
-        got, lines, _ = told_by(child)
-        check(f"{name}: unreachable", got == 10 and lines[0].startswith("css: unreachable after "), (got, lines))
-        check(f"{name}: its hint", len(lines) == 2 and is_hint(lines[1]) and hint in lines[1], lines)
-        server.end()
+    patiently(check, against, program, "a server of something else", not_found, 10, "css: unreachable after ", "404")
     child = start(program, ["companion", "--cii", f"ws://127.0.0.1:{closed_port()}/cii", "--seconds", "2"])
-    got, lines, _ = told_by(child)
-    check("nobody listens: unreachable, and why", got == 10 and len(lines) == 2 and is_hint(lines[1])
-          and "nobody listens" in lines[1], (got, lines))
+    check_end(check, "nobody listens", child, 10, "css: unreachable after ", "nobody listens")
 
 
-def relays(check, program, port):
+def relays(check, times, program, port):
     """A relay whose television moves its wall clock goes on, and what it says is for somebody who runs a relay."""
     sessions = []
 
@@ -212,7 +212,7 @@ def relays(check, program, port):
     tell = teller({**state(), "wcUrl": old}, {**state(), "wcUrl": "udp://127.0.0.1:9"})
     server = Listener(serve)
     url = f"ws://127.0.0.1:{server.port}/cii"
-    told = told_by(start(program, ["relay", "--cii", url, "--port", str(port), "--seconds", "5"]))
+    told = told_by(start(program, ["relay", "--cii", url, "--port", str(port), "--seconds", str(5 * times)]))
     check("a relay goes on where its television moves", told == (0, [], "") and len(sessions) > 1,
           (told, len(sessions)))
     server.end()
@@ -262,7 +262,7 @@ def statuses(port, program, check):
     offline(check, program)
     sockets(check, program, port)
     companions(check, program, port + 2)
-    relays(check, program, port + 2)
+    patiently(check, relays, program, port + 2)
     records(check, program)
     logged(check, program, port + 4)
     departures(check, program, port + 4)

@@ -10,6 +10,8 @@ import sys
 import tempfile
 import time
 
+from live_edge import patiently
+
 TOOL = pathlib.Path(__file__).resolve().parent.parent / "tools" / "page.py"
 STARTED = []
 
@@ -268,7 +270,8 @@ def handed_on(check, port):
     page = Page(port)
     page.feed(*lines[:3], "", *lines[3:])
     whole = [line.replace("\r", " ") for line in lines]
-    found = events(asked(port, "GET /lines HTTP/1.1"), 60, lambda found: len(found) > len(lines))
+    found = events(asked(port, "GET /lines HTTP/1.1"), 60,
+                   lambda found: sum(not name for _, name, _ in found) == len(lines) and found[-1][1])
     check("the lines are handed on as they came", [data for _, name, data in found if not name] == whole)
     status_event = found[-1]
     check("and then how old the last one is", status_event[1] == "page" and "age" in json.loads(status_event[2]))
@@ -285,8 +288,9 @@ def handed_on(check, port):
     page.end()
 
 
-def replayed(check, port):
-    """Saved lines come at the pace of their readings; a watch that begins anew isn't waited for."""
+def replayed(check, _, port):
+    """Saved lines come at the pace of their readings; a watch that begins anew isn't waited for. Where this program
+    was late for the first of them it is tried again."""
     lines = [f'{{"event":"visit","number":1,"reading":"{2**60}"}}', f'{{"event":"slept","reading":"{2**60 + 10**9}"}}',
              '{"event":"visit","number":1,"reading":"5"}', '{"event":"slept","reading":"500000005"}']
     with tempfile.NamedTemporaryFile("w", suffix=".lines") as file:
@@ -365,6 +369,6 @@ def serving(check, port):
     network(check, port)
     byte_by_byte(check, port)
     handed_on(check, port)
-    replayed(check, port)
+    patiently(check, replayed, port)
     too_long(check, port)
     unread(check, port)

@@ -86,7 +86,7 @@ def unreached(check, browser, port, state):
                 wanted = f"Can't reach {place}{f': {meant}' if meant else ''}"
                 seen = shown(browser, page, told, dial, *reports)
                 check(f"{service} that failed with {why or 'no why'} is said", seen[0] == wanted and
-                      re.fullmatch("for [2-9] s", seen[1]), seen)
+                      re.fullmatch("for ([2-9]|[1-9][0-9]+) s", seen[1]), seen)
         page.close()
         check("at the end it couldn't be reached", browser.word(f"Couldn't reach {place}") and
               headline(browser)[1] == "for the last 2 s", headline(browser))

@@ -13,6 +13,9 @@ import time
 TEXT, CLOSE, PING, PONG = 1, 8, 9, 10
 TIMELINE = "urn:dvb:css:timeline:pts"
 PATIENCE = 30  # Only what hangs takes so many seconds, also on a busy machine.
+POLL = 0.1  # So often what waits notes that nothing came.
+ANSWERED = 0.8  # Within so many seconds no program cuts off a peer whose answer to a close it still waits for.
+LATE = "late"
 UPGRADED = ("Upgrade: websocket", "Connection: Upgrade")
 FAULTS = (EOFError, OSError, ValueError, IndexError)
 
@@ -50,18 +53,30 @@ class Peer:
 
     def __init__(self, conn, masked):
         self.conn, self.masked, self.bytes = conn, masked, b""
+        # When nothing was left to be read; and `came` says that of what was read last: it came later.
+        self.quiet = self.came = time.monotonic()
 
     def take(self, count, seconds):
         end = time.monotonic() + seconds
         while len(self.bytes) < count:
-            if not select.select([self.conn], [], [], max(0, end - time.monotonic()))[0]:
+            now = time.monotonic()
+            if select.select([self.conn], [], [], min(POLL, max(0, end - now)))[0]:
+                self.read(now)
+                continue
+            self.quiet = now
+            if now >= end:
                 raise TimeoutError
-            more = self.conn.recv(65536)
-            if not more:
-                raise EOFError
-            self.bytes += more
         taken, self.bytes = self.bytes[:count], self.bytes[count:]
         return taken
+
+    def read(self, now):
+        """Reads what has come by now."""
+        more = self.conn.recv(65536)
+        if not more:
+            raise EOFError
+        self.bytes, self.came = self.bytes + more, self.quiet
+        if len(more) < 65536:
+            self.quiet = now
 
     def head(self, seconds=PATIENCE):
         """An HTTP head."""
@@ -99,17 +114,20 @@ class Peer:
                 raise EOFError
 
     def answers(self, payload):
-        """Whether a ping is answered by its own pong, and nothing comes before that."""
+        """Whether a ping is answered by its own pong, and nothing comes before that but pings: a session on which
+        nothing was said for long is asked whether its peer is there."""
         try:
             self.say(payload, PING)
-            return self.hear() == (PONG, payload)
+            while (heard := self.hear())[0] == PING:
+                self.say(heard[1], PONG)
+            return heard == (PONG, payload)
         except (EOFError, OSError):
             return False
 
-    def told(self):
+    def told(self, seconds=PATIENCE):
         """The next text; an empty one where none comes, or the session ends first."""
         try:
-            return self.text()
+            return self.text(seconds)
         except (EOFError, OSError):
             return {}
 
@@ -146,7 +164,8 @@ def nanos(bytes8):
 
 
 class Listener:
-    """Takes connections, notes when each came, and hands it to a function in a thread of its own."""
+    """Takes connections, notes when each came, and hands it to a function in a thread of its own. On a busy machine it
+    takes one late, so it is noted too when it hadn't come."""
 
     def __init__(self, serve, port=0, host="127.0.0.1"):
         family = socket.AF_INET6 if ":" in host else socket.AF_INET
@@ -155,15 +174,22 @@ class Listener:
         self.socket.bind((host, port))
         self.socket.listen(64)
         self.port, self.times, self.serve = self.socket.getsockname()[1], [], serve
+        self.before = []  # When each of them hadn't come.
         self.thread = threading.Thread(target=self.take, daemon=True)
         self.thread.start()
 
     def take(self):
+        quiet = time.monotonic()
         while True:
+            now = time.monotonic()
             try:
+                if not select.select([self.socket], [], [], POLL)[0]:
+                    quiet = now
+                    continue
                 conn, _ = self.socket.accept()
             except OSError:
                 return
+            self.before.append(quiet)
             self.times.append(time.monotonic())
             conn.setsockopt(socket.IPPROTO_TCP, socket.TCP_NODELAY, 1)
             threading.Thread(target=self.hand, args=(conn,), daemon=True).start()
@@ -212,14 +238,20 @@ def state(clock=None, timestamps=None):
 
 def end_of(peer, seconds=PATIENCE, over=None):
     """How a connection ends: the codes of the close frames on it and how many texts came before, and whether it was
-    ended in order, by a reset, or not at all. A close is answered; `over` is set before."""
-    codes, texts = [], 0
+    ended in order, by a reset, or not at all. A ping is answered, and so is a close; `over` is set before.
+
+    Whoever closes waits a second for that answer and then may cut the connection, though the peer has all that it was
+    told. A reset so long after the close is told as late: this end was."""
+    codes, texts, closed = [], 0, None
     try:
         while True:
             opcode, payload = peer.hear(seconds)
             texts += opcode == TEXT
+            if opcode == PING:
+                peer.say(payload, PONG)
             if opcode == CLOSE:
                 codes.append(struct.unpack(">H", payload[:2])[0] if payload else 1005)
+                closed = closed or peer.came
                 if over:
                     over.set()
                 peer.say(payload, CLOSE)
@@ -229,4 +261,9 @@ def end_of(peer, seconds=PATIENCE, over=None):
     except TimeoutError:
         return codes, texts, "not at all"
     except OSError:
-        return codes, texts, "by a reset"
+        return codes, texts, LATE if closed and time.monotonic() > closed + ANSWERED else "by a reset"
+
+
+def is_closed(codes, how, code=1000):
+    """Whether a connection was closed by one close frame with this code, and not cut before that could be answered."""
+    return codes == [code] and how in ("in order", LATE)

@@ -135,16 +135,18 @@ class Set(Television):
         self.listeners.append((kind, self.open[kind]))
 
     def dials(self, kind):
-        """When each dial of a kind came. Of the wall clock that is the first request from a port."""
+        """Between which times each dial of a kind came. Of the wall clock that is the first request from a port, which
+        has the time at which it was made."""
         if kind == "WC":
-            return sorted(self.senders.values())
-        return sorted(at for each, listener in self.listeners for at in listener.times if each == kind)
+            return [(at, at) for at in sorted(self.senders.values())]
+        return sorted((dial for each, listener in self.listeners for dial in zip(listener.before, listener.times)
+                       if each == kind), key=lambda dial: dial[1])
 
     # ---- the wall clock
 
     def answer(self, clock, data, sender):
         with self.lock:
-            self.senders.setdefault(sender, time.monotonic())
+            self.senders.setdefault(sender, nanos(data[8:16]) / SECOND)
             self.sender, self.request = sender, data[8:16]
             if self.mute or self.loses():
                 return
