@@ -1,5 +1,5 @@
 -- What a relay's run makes of the calls of its companion.
-use Rattle.std.proofs.Common.{◌≡◌, ℕ, ap, ap₂, ◌∙◌, refl, Bool, true, false, cond, [], ◌∷◌, ◌++◌, Option, Some}
+use Rattle.std.proofs.Common.{arith, ◌≡◌, ℕ, ap, ap₂, ◌∙◌, refl, Bool, true, false, cond, [], ◌∷◌, ◌++◌, Option, Some}
 use Rattle.std.proofs.Common.{None, sym, subst, inl, inr, Result, Ok, Err, eq-eqb}
 use Rattle.std.specs.Prelude.{MatchResult, is_some, not, ◌&&◌, ◌⊎◌}
 use Rattle.css_model.specs.declared.Kind.{Kind}
@@ -26,22 +26,20 @@ use Rattle.css_drive.specs.CompanionStanding as companions
 use Rattle.css_drive.specs.CompanionStanding.{Shown, GivesPlace, IsRefusal, dial_entries, still}
 use Rattle.css_drive.specs.CompanionTurns.{is_asking, unless}
 use Rattle.css_drive.specs.Proper.{Due, Dial, Now, SendDatagram, TakeDatagram}
-use Rattle.css_drive.specs.Stages.{At, Dials, DialsOnce, DialsTold, with_dial, Reads, AsksOnce}
-use Rattle.css_drive.specs.Stages.{Hears, HearsOnce, is_text, refusal_by, with_answer, at_of}
+use Rattle.css_drive.specs.Stages.{At, Dials, DialsOnce, DialsTold, with_dial, Reads, AsksOnce, Hears, HearsOnce}
+use Rattle.css_drive.specs.Stages.{is_text, refusal_by, with_answer, at_of}
 use Rattle.css_drive.specs.declared.companion_live.Live.{Live as Own}
 use Rattle.css_drive.specs.declared.driven.Driven.{Driven}
 use Rattle.css_drive.specs.declared.driven.Driven.TheVariants as driven
 use Rattle.css_drive.specs.declared.session.Session.TheVariants as session
 use Rattle.css_drive.proofs.CompanionSteps.{lawful_plain}
 use Rattle.css_drive_relay.specs.Due.{due_at, from_ask, from_cii, from_take, from_wc}
-use Rattle.css_drive_relay.specs.Places.{Asked, Asking, Begun, Called, Facts, Place, Progress, Requested}
-use Rattle.css_drive_relay.specs.Places.{Welcomed, published, welcomed}
+use Rattle.css_drive_relay.specs.Places.{Asked, Asking, Begun, Called, Facts, Place, Progress, Requested, Welcomed}
+use Rattle.css_drive_relay.specs.Places.{published, welcomed}
 use Rattle.css_drive.specs.declared.parting.Parting.TheVariants as parting
 use Rattle.css_relay.specs.Agreeing.{Agrees}
-use Rattle.std.proofs.lemmas.List.Elements.{All-nil}
-use Rattle.css_drive_relay.specs.Standing.{Came, Comes, DialsAndAsks, HasRead, IsAt, Knows, Runs, Stands, Stops}
-use Rattle.css_drive_relay.specs.Standing.{facts_in}
-use Rattle.css_drive_relay.specs.Standing.{stood}
+use Rattle.css_drive_relay.specs.Standing.{Comes, DialsAndAsks, HasRead, IsAt, Knows, Runs, Stands, Stops, facts_in}
+use Rattle.css_drive_relay.specs.Standing.{cut_if, goes_on_at, stood}
 use Rattle.css_drive_relay.specs.declared.plan.Plan.{Plan}
 use Rattle.css_drive_relay.specs.declared.live.Live.{Live}
 use Rattle.css_drive_relay.proofs.Steps as steps
@@ -124,8 +122,8 @@ module _ (live : Live) {plan : Plan} {start now : Shown} {history : History} {sp
       → Stops plan start now live ended
   bad told driven.Memory g d = steps.stops_by_memory s.runs (steps.lawful s.knows) driven.Memory refl
   bad told _ g d =
-      subst (λ (x : Driven). Stops plan start now live x) (sym g.1) (steps.stops_here s.runs (steps.lawful s.knows) refl
-      (driven.BadUrl WcUrl) tt tt
+      subst (λ (x : Driven). Stops plan start now live x) (sym g.1) (steps.stops_here s.runs (steps.lawful s.knows)
+      (driven.BadUrl WcUrl) (inr refl) tt tt
       (d ∙ ap (λ x. dial_to None kind.Wc WcUrl x (from_ask plan (facts_in live) history)) g.2))
 
   pub goes_wc : (known : Option ℕ) (told : Option (Result Address AddressFault)) → live.own.wc ≡ known
@@ -167,13 +165,22 @@ module _ (live : Live) {plan : Plan} {start now : Shown} {history : History} {sp
       by None None is (Err ended) x = stops new x.0 (bad None ended x.1 is)
 
   -- ---- requests
+  asks_if : (known : Option ℕ) (time : Bool) → live.own.wc ≡ known
+      → is_asking plan.run.ask_every live.own.turn live.own.asked ≡ time
+      → due_at plan (facts_in live) history spot ≡ from_ask plan (facts_in live) history
+      → due_at plan (facts_in live) history spot ≡ cond (is_some known && time) (Now why.Ask) TakeDatagram
+  asks_if known time e is due =
+      due ∙ ap₂ (λ (o : Option ℕ) (c : Bool). cond (is_some o && c) (Now why.Ask) TakeDatagram) e is
+
   asking : (peer : ℕ) → live.own.wc ≡ Some peer → is_asking plan.run.ask_every live.own.turn live.own.asked ≡ true
       → due_at plan (facts_in live) history spot ≡ from_ask plan (facts_in live) history → {mid : At}
       {after : Companion}
       → (r : Reads peer (now_at now live) mid after)
       → Runs plan start mid.shown (stood (with_at live mid) (Asking r.clocked.reading))
       (clock_entries why.Ask r.clocked ++ history)
-  asking peer e time is r = steps.asks {live = live} {clocked = r.clocked} s.runs is peer e time (has_read live r.read)
+  asking peer e time is r =
+      steps.runs_read {live = live} {clocked = r.clocked} s.runs (asks_if (Some peer) true e time is)
+      (has_read live r.read) _ refl
 
   sending : {peer : ℕ} {mid : At} {after : Companion} → (r : Reads peer (now_at now live) mid after)
       → Knows plan (with_companion live.relay after) (Sent peer r.bytes ∷ clock_entries why.Ask r.clocked ++ history)
@@ -196,7 +203,7 @@ module _ (live : Live) {plan : Plan} {start now : Shown} {history : History} {sp
               (sent ∷ clock_entries why.Ask r.reads.clocked ++ history)) (sym r.live)
               (steps.runs_on (asking peer e time is r.reads) sent (steps.may_as
               (ap (λ o. send_to o (encoded (request_at r.reads.clocked.reading))) wc
-              ∙ ap (λ b. SendDatagram peer b) (sym r.reads.request)) (sent ∷ []) refl) (λ o. o) (λ x. x) r.sent);
+              ∙ ap (λ b. SendDatagram peer b) (sym r.reads.request)) (sent ∷ []) refl) (λ o. o) r.sent);
           knows = sending r.reads;
         },
         refl,
@@ -206,12 +213,9 @@ module _ (live : Live) {plan : Plan} {start now : Shown} {history : History} {sp
       let l = steps.lawful (sending reads) in
       steps.stops_by_fault (asking peer e time is reads) (record { rises = l.rises.1; asks = l.asks.1 }) f
   goes_ask (Some peer) false e time is new (Ok done) x =
-      same from_take x (is ∙ ap₂ (λ (o : Option ℕ) (c : Bool). cond (is_some o && c) (Now why.Ask) TakeDatagram) e time)
+      same from_take x (asks_if (Some peer) false e time is)
   goes_ask (Some peer) false e time is new (Err ended) never = absurd never
-  goes_ask None b e time is new (Ok done) x =
-      same from_take x (is ∙ ap (λ (o : Option ℕ). cond
-      (is_some o && is_asking plan.run.ask_every live.own.turn live.own.asked)
-      (Now why.Ask) TakeDatagram) e)
+  goes_ask None b e time is new (Ok done) x = same from_take x (asks_if None b e time is)
   goes_ask None b e time is new (Err ended) never = absurd never
 
 -- ---- all three
@@ -243,6 +247,12 @@ goes_calls live s new (Err ended) (inr (inr (a, b, cii, wc, asks))) =
     goes_ask (with_at live b) y.2 _ _ refl refl y.3 new (Err ended) asks
 
 -- ---- the television's session
+still_open : (was is : Option ℕ) → is ≡ was → true ≡ (is_some was && not (is_some is)) → ⊥
+still_open was is same e = grind (arith, same, e)
+
+is_shut : (was is : Option ℕ) → is_some was ≡ true → is ≡ None → false ≡ (is_some was && not (is_some is)) → ⊥
+is_shut was is some none e = grind (arith, some, none, e)
+
 module _ (live : Live) {plan : Plan} {start now : Shown} {history : History}
     (s : Stands plan start now live.relay (stood live (welcomed (facts_in live))) history) (new : At) where
   -- nothing came, and the session is as it was
@@ -263,25 +273,14 @@ module _ (live : Live) {plan : Plan} {start now : Shown} {history : History}
   HearsSo false = IsQuiet new ⊎ HasClosed new
 
   -- which of the two is told by the session before and after
-  never : (o : Option ℕ) → (is_some o && not (is_some o)) ≡ true → ⊥
-  never None e = absurd (cc)
-  never (Some peer) e = absurd (cc)
-
-  pub closes : IsQuiet new ⊎ HasClosed new → (is_some live.own.cii_open && not (is_some new.live.cii_open)) ≡ true
-      → (h : History) × Stands plan start new.shown (with_companion live.relay new.companion) (record {
-        facts = record (facts_in (with_at live new)) { parting = Some (parting.Closed session.Cii) };
-        place = Asked [];
-      }) h
-  closes (inr c) e = c.0
-  closes (inl q) e =
-      absurd (never live.own.cii_open (subst (λ (o : Option ℕ). (is_some live.own.cii_open && not (is_some o)) ≡ true)
-      q.1 e))
-
-  pub goes_on : IsQuiet new ⊎ HasClosed new → (is_some live.own.cii_open && not (is_some new.live.cii_open)) ≡ false
-      → IsAt (λ f. Asked f.peers) plan start new.shown (with_at live new)
-  goes_on (inl q) e = q.0
-  goes_on (inr c) e =
-      absurd (let f : true ≡ false = sym (ap₂ (λ (b : Bool) (o : Option ℕ). b && not (is_some o)) c.1 c.2) ∙ e in cc)
+  pub closed_if : IsQuiet new ⊎ HasClosed new → (closed : Bool)
+      → closed ≡ (is_some live.own.cii_open && not (is_some new.live.cii_open))
+      → IsAt (goes_on_at (λ f. Asked f.peers) (not closed)) plan start new.shown
+      (cut_if closed (parting.Closed session.Cii) (with_at live new))
+  closed_if (inl quiet) true e = absurd (still_open live.own.cii_open new.live.cii_open quiet.1 e)
+  closed_if (inl quiet) false e = quiet.0
+  closed_if (inr closed) true e = closed.0
+  closed_if (inr closed) false e = absurd (is_shut live.own.cii_open new.live.cii_open closed.1 closed.2 e)
 
   module _ (p : ℕ) (e : live.own.cii_open ≡ Some p) where
     asked : Stands plan start now live.relay (stood live (Welcomed p)) history
@@ -295,7 +294,7 @@ module _ (live : Live) {plan : Plan} {start now : Shown} {history : History}
 
     quiet : companions.Adds now new.shown (Quiet p ∷ [])
         → Runs plan start new.shown (stood live (Asked live.peers.items)) (Quiet p ∷ history)
-    quiet a = (steps.stands_on asked (Quiet p) (answer.Quiet, refl) tt (λ x. (x.0, x.0, x.2)) a).runs
+    quiet a = (steps.stands_on asked (Quiet p) (answer.Quiet, refl) tt a).runs
 
     -- how far the run is once the session closed
     abbrev over : Own → Progress
@@ -311,7 +310,7 @@ module _ (live : Live) {plan : Plan} {start now : Shown} {history : History}
           facts = record (facts_in live) { television = o; parting = Some (parting.Closed session.Cii) };
           place = Asked [];
         }) (Closed p ∷ history)) (sym none) (steps.stands_on asked (Closed p) (answer.Closed, refl)
-        (ap is_ts its_kind) (λ x. (x.0, All-nil (Came (Closed p ∷ history)), tt)) a).runs
+        (ap is_ts its_kind) a).runs
 
     -- what the relay knows then
     knows : (said : Answer) → Hears WallClock session.Cii p said (now_at now live) new

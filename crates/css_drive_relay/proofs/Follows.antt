@@ -14,9 +14,8 @@ use Rattle.css_model.specs.History.{Entry, History, Each, Slept, Clock, Dialling
 use Rattle.css_model.specs.History.{TookNone, Wrote, Gone, HungUp}
 use Rattle.css_model.specs.Wire.{encoded, request_at}
 use Rattle.css_sessions.specs.Kept.{full_text}
-use Rattle.css_drive_relay.specs.Places.{Place, Begun, Called, Requested, Asking, Taken, Received, Answers}
-use Rattle.css_drive_relay.specs.Places.{Served, Greeting, Rejecting, Welcomed, Refused, Telling, Asked, Dropping}
-use Rattle.css_drive_relay.specs.Places.{Facts, Progress, progress_of}
+use Rattle.css_drive_relay.specs.Places.{Place, Asking, Taken, Received, Answers, Served, Greeting, Rejecting, Telling}
+use Rattle.css_drive_relay.specs.Places.{Asked, Dropping, Facts, Progress, progress_of}
 use Rattle.css_drive_relay.specs.Due.{due_at, IsProperRelay, due, is_left}
 use Rattle.css_drive_relay.specs.declared.plan.Plan.{Plan}
 use Rattle.css_drive.specs.Ends.{MayEnd}
@@ -113,21 +112,9 @@ Fits plan f place _ = (waiting place ≡ []) × IsRest place
 
 pub fits : (plan : Plan) (f : Facts) (history : History) (place : Place)
     → Fits plan f place (due_at plan f history place)
-fits plan f history Begun = grind arith
-fits plan f history (Called k) = grind arith
-fits plan f history (Asking reading) = grind arith
-fits plan f history (Taken peer bytes) = grind arith
-fits plan f history (Received peer ticket) = grind arith
-fits plan f history (Answers peer datagram) = grind arith
-fits plan f history Requested = grind arith
-fits plan f history Served = grind arith
-fits plan f history (Greeting peer) = grind arith
-fits plan f history (Rejecting peer) = grind arith
-fits plan f history (Welcomed peer) = grind arith
-fits plan f history (Refused fault) = grind arith
 fits plan f history (Telling text left) = grind (arith, nat_tests)
 fits plan f history (Asked left) = grind (arith, nat_tests)
-fits plan f history (Dropping peer left) = grind arith
+fits plan f history _ = grind arith
 
 -- ---- entries
 -- what the place was that an entry leaves
@@ -163,8 +150,7 @@ followed plan [] Empty = tt
 followed plan h (More {older} call may proper) =
     let p : Progress = progress_of plan older in
     added plan older (followed plan older proper) (due_at plan p.facts older p.place) (fits plan p.facts older p.place)
-    call
-    may
+    call may
 
 -- ---- places to which entries lead
 module _ (P : Place → Type 0) where

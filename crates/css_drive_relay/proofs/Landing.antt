@@ -1,7 +1,7 @@
 -- What a relay's run makes of a datagram that lands.
 use Rattle.std.proofs.Common.{◌≡◌, ◌∙◌, ap, sym, subst, refl, ℕ, List, [], ◌∷◌, ◌++◌, Bool, true, false, cond, Result}
-use Rattle.std.proofs.Common.{Ok, Err, Some, inl}
-use Rattle.std.specs.Prelude.{◌==◌, is_some}
+use Rattle.std.proofs.Common.{Ok, Err, inl}
+use Rattle.std.specs.Prelude.{◌==◌, is_some, not}
 use Rattle.css_agree.specs.Disagreements.{contradicts}
 use Rattle.css_agree.specs.Keeping.{Kept}
 use Rattle.css_client.proofs.Judging as judging
@@ -13,8 +13,9 @@ use Rattle.css_drive.specs.CompanionStanding.{Shown}
 use Rattle.css_drive.specs.declared.driven.Driven.{Driven}
 use Rattle.css_drive.specs.declared.driven.Driven.TheVariants as driven
 use Rattle.css_drive.specs.declared.parting.Parting.TheVariants as parting
-use Rattle.css_drive_relay.specs.Places.{Facts, Served, Taken, landed, landed_at}
-use Rattle.css_drive_relay.specs.Standing.{HasRead, IsAt, Knows, Runs, Stands, Stops, facts_in, goes_on_at, placed}
+use Rattle.css_drive_relay.specs.Due.{from_taken}
+use Rattle.css_drive_relay.specs.Places.{Served, Taken, landed, landed_at}
+use Rattle.css_drive_relay.specs.Standing.{HasRead, IsAt, Knows, Runs, Stands, Stops, facts_in, goes_on_at, cut_if}
 use Rattle.css_drive_relay.specs.Standing.{stood}
 use Rattle.css_drive_relay.specs.declared.live.Live.{Live}
 use Rattle.css_drive_relay.specs.declared.plan.Plan.{Plan}
@@ -60,7 +61,7 @@ module _ {plan : Plan} {start now mid : Shown} {live later : Live} {history : Hi
       (Taken peer bytes) (facts_in later)) (calls slept)
 
   runs : RunsTo clocked.slept
-  runs = steps.lands {live = live} {clocked = clocked} s.runs none r
+  runs = steps.runs_read {live = live} {clocked = clocked} s.runs (ap from_taken none) r _ refl
 
   -- memory ran out after the reading
   pub memory : {is : Live} (ended : Driven) → ended ≡ driven.Memory → Stops plan start mid is ended
@@ -143,30 +144,10 @@ module _ {plan : Plan} {start now mid : Shown} {live later : Live} {history : Hi
           agrees = subst (λ (x : Kept). Agrees own x (calls false)) (sym agree) agrees;
         }
 
--- an answer contradicts those before it
-pub parted : {plan : Plan} {start mid : Shown} (later : Live) {is : Live} {history : History}
-    → Runs plan start mid (landed true (facts_in later)) history → Knows plan is.relay history
-    → is ≡ record later { relay = is.relay; parting = Some parting.Disagree }
-    → IsAt (goes_on_at (λ f. Served) false) plan start mid is
-parted {plan} {start} {mid} later {is} {history} runs k e = (
-  history,
-  record {
-    runs = subst (λ (f : Facts). Runs plan start mid (placed (goes_on_at (λ f. Served) false) f) history)
-        (sym (ap facts_in e)) runs;
-    knows = k;
-  },
-)
-
--- or none does
-pub served : {plan : Plan} {start mid : Shown} (later : Live) {is : Live} {history : History}
-    → Runs plan start mid (landed false (facts_in later)) history → Knows plan is.relay history
-    → is ≡ record later { relay = is.relay }
-    → IsAt (goes_on_at (λ f. Served) true) plan start mid is
-served {plan} {start} {mid} later {is} {history} runs k e = (
-  history,
-  record {
-    runs = subst (λ (f : Facts). Runs plan start mid (placed (goes_on_at (λ f. Served) true) f) history)
-        (sym (ap facts_in e)) runs;
-    knows = k;
-  },
-)
+-- an answer contradicts those before it, or none does
+pub goes : {plan : Plan} {start mid : Shown} (later : Live) (is : Relay) (told : Bool) {history : History}
+    → Runs plan start mid (landed told (facts_in later)) history → Knows plan is history
+    → IsAt (goes_on_at (λ f. Served) (not told)) plan start mid
+    (cut_if told parting.Disagree (record later { relay = is }))
+goes later is true {history} runs k = (history, record { runs = runs; knows = k })
+goes later is false {history} runs k = (history, record { runs = runs; knows = k })

@@ -1,4 +1,5 @@
 pub mod Follows
+mod Peers
 pub mod Steps
 mod AsCompanion
 pub mod ToldSessions

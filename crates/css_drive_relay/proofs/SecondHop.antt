@@ -133,8 +133,7 @@ answers_are_true plan history peer bytes e =
       answers = is;
       is_true = λ errors world who moment_of keeps range lawful explains.
           let x = two.answers_are_true errors world who plan.run.companion.local history moment_of is.message keeps
-          range
-          lawful explains is.answer in
+          range lawful explains is.answer in
           (x, two.true_is_truthful world errors.tv _ _ is.message x);
     }
 
@@ -262,13 +261,11 @@ found plan (entry ∷ older) each message before (inr later) =
 -- ---- the laws
 pub given_is_true : GivenIsTrue
 given_is_true errors world who plan history moment_of message before proper for range lawful explains given =
-    let x : IsFound plan.run.companion.local history message before = found plan history (followed plan history proper)
-    message
-    before given in
+    let x : IsFound plan.run.companion.local history message before =
+    found plan history (followed plan history proper) message before given in
     let is : IsTrueResponse world errors.tv (moment_of (last_take before)) (moment_of (length before)) message =
     rw (x.at_take, x.at_give) at (two.answers_are_true errors world who plan.run.companion.local history moment_of
-    message
-    for range lawful explains x.answer) in
+    message for range lawful explains x.answer) in
     record { response = is; truthful = two.true_is_truthful world errors.tv _ _ message is }
 
 -- what was sent right after a reading for an answer is the datagram of the response given then
@@ -321,12 +318,9 @@ module _ (errors : Errors) (world : World) (who : ℕ) (plan : Plan) (history : 
       reads_back plan.run.companion.local found.answer.before_take found.answer.before_give found.answer.take
       found.answer.give found.answer.request found.answer.ticket message landed.message found.answer.received
       found.answer.answered (sym (ap decoded sent.2) ∙ x.read) in
-      two.true_is_truthful world errors.tv (moment_of (last_take x.before)) (moment_of (length x.before))
-      landed.message
-      (true_as world errors.tv (moment_of (last_take x.before)) (moment_of (length x.before)) message landed.message
-      same is.response)
-      second_moment_of landed x.ask older refl x.asked x.sent_before
-      (explains.happens.in_order (last_take x.before) (length x.before) (take_earlier x.before)) x.landed_after
+      two.true_is_truthful world errors.tv _ _ landed.message
+      (true_as world errors.tv _ _ message landed.message same is.response) second_moment_of landed x.ask older refl
+      x.asked x.sent_before (explains.happens.in_order _ _ (take_earlier x.before)) x.landed_after
 
   each_truthful : (second_moment_of : ℕ → ℕ) (second_own : Local) (second_history : History)
       → Each (FromRunAt history moment_of second_own second_moment_of) second_history

@@ -1,8 +1,8 @@
 -- How hang-ups come to the end of a visit, and visits to what a relay comes to.
 use Rattle.std.proofs.Common.{◌≡◌, ◌∙◌, ◌≤◌, ◌+◌, ap, sym, subst, refl, arith, ℕ, suc, add-one, List, [], ◌∷◌, ◌++◌}
-use Rattle.std.proofs.Common.{append-nil, append_assoc, Bool, true, false, Option, Some, None, Result, Ok, Err, inl}
-use Rattle.std.proofs.Common.{inr}
-use Rattle.std.specs.Prelude.{◌⊎◌, ◌||◌, is_some, MatchResult}
+use Rattle.std.proofs.Common.{append-nil, append_assoc, true, false, Option, Some, None, Result, Ok, Err, inl, inr}
+use Rattle.std.specs.Prelude.{◌⊎◌, is_some, MatchResult}
+use Rattle.std.specs.Option.{option_to_list}
 use Rattle.std.specs.Result.{IsErrAnd}
 use Rattle.css_model.specs.History.{History, HungUp, Listening}
 use Rattle.css_outside.specs.Faults.{HasRisen}
@@ -20,8 +20,8 @@ use Rattle.css_drive_relay.specs.Places.{Facts, progress_of}
 use Rattle.css_drive_relay.specs.Ran.{IsLast, IsRelayEnd, begun_by, facts_after, HasStayed, hang_ups, hung_all}
 use Rattle.css_drive_relay.specs.Ran.{nothing_begun, plan_of, visits_of}
 use Rattle.css_drive_relay.specs.Standing.{Hangs, HasTried, IsStop, Stops, facts_in}
-use Rattle.css_drive_relay.specs.Staying.{BeginsBy, CountsTries, EndsBy, GoesOn, HasTriedBy, IsDone}
-use Rattle.css_drive_relay.specs.Staying.{Makes, SoFar, Stays}
+use Rattle.css_drive_relay.specs.Staying.{BeginsBy, CountsTries, EndsBy, GoesOn, HasTriedBy, IsDone, Makes, SoFar}
+use Rattle.css_drive_relay.specs.Staying.{Stays}
 use Rattle.css_drive_relay.specs.declared.begun.Begun.{Begun}
 use Rattle.css_drive_relay.specs.declared.config.RelayRun.{RelayRun}
 use Rattle.css_drive_relay.specs.declared.live.Live.{Live}
@@ -60,8 +60,8 @@ one_hung {old} {now} {next} {rest = rest} {peer} h e a = record {
   counts = a.same ∙ h.counts;
 }
 
-pub all_hung : {old now : Shown} {all left : List ℕ} → Hanging old now all left → left ≡ []
-    → Hangs old now (hung_all all) (Ok (tt {0}))
+pub all_hung : {old now : Shown} {all left : List ℕ} {done : Unit {0}} → Hanging old now all left → left ≡ []
+    → Hangs old now (hung_all all) (Ok done)
 all_hung h e = record {
   made = h.made;
   left = [];
@@ -83,40 +83,19 @@ hanging_fails {now = now} {next} {left = left} {ended} h f = record {
   );
 }
 
--- ---- the television's session is hung up last
-module _ {old now : Shown} {wanted : History} where
-  pub no_television : {result : Result (Unit {0}) Driven} → Hangs old now wanted result
-      → Hangs old now (hung None ++ wanted) result
-  no_television h = h
+-- the last one
+pub last_hung : {old now next : Shown} {all left : List ℕ} {peer : ℕ} (result : Result (Unit {0}) Driven)
+    → Hanging old now all left → left ≡ peer ∷ []
+    → MatchResult result (λ _. Adds now next (HungUp peer ∷ [])) (Fails now next None)
+    → Hangs old next (hung_all all) result
+last_hung (Ok done) h e a = all_hung (one_hung h e a) refl
+last_hung (Err ended) h e f = hanging_fails h f
 
-  pub television_hung : {next : Shown} {peer : ℕ} (result : Result (Unit {0}) Driven) → Hangs old now wanted
-      (Ok (tt {0}))
-      → MatchResult result (λ _. Adds now next (HungUp peer ∷ [])) (Fails now next None)
-      → Hangs old next (hung (Some peer) ++ wanted) result
-  television_hung {next} {peer} (Ok done) h a = record {
-    made = HungUp peer ∷ h.made;
-    left = [];
-    parts = ap (λ xs. HungUp peer ∷ xs) (h.parts ∙ ap (λ xs. xs ++ h.made) h.ends.0);
-    told = told_more old.told now.told next.told (HungUp peer ∷ []) h.made h.told a.told;
-    ends = (refl, ap {A = Counts} (λ x. x.faults) a.same ∙ h.ends.1);
-  }
-  television_hung {next} {peer} (Err ended) h f = record {
-    made = h.made;
-    left = HungUp peer ∷ [];
-    parts = ap (λ xs. HungUp peer ∷ xs) (h.parts ∙ ap (λ xs. xs ++ h.made) h.ends.0);
-    told = f.told ∙ h.told;
-    ends = (f.end, subst (λ (n : ℕ). CountsNetFault n next.counts.faults ended) h.ends.1 f.counted);
-  }
-
-  pub accepted_fail : (television : Option ℕ) {ended : Driven} → Hangs old now wanted (Err ended)
-      → Hangs old now (hung television ++ wanted) (Err ended)
-  accepted_fail television h = record {
-    made = h.made;
-    left = hung television ++ h.left;
-    parts = ap (λ xs. hung television ++ xs) h.parts ∙ sym (append_assoc (hung television) h.left h.made);
-    told = h.told;
-    ends = h.ends;
-  }
+-- the accepted ones are hung up, and that of the television is left, if it is open
+pub left_last : {peers : List ℕ} {television left : Option ℕ} → peers ≡ [] → television ≡ left
+    → peers ++ option_to_list television ≡ option_to_list left
+left_last {television = television} {left} none is =
+    ap (λ xs. xs ++ option_to_list television) none ∙ ap option_to_list is
 
 -- ---- a visit
 pub fault_end : (ended : Driven) → IsFault ended → IsRelayEnd ended
@@ -147,22 +126,24 @@ last_kind : (ended : Driven) (cause : Option Parting) → IsStop ended → why e
 last_kind ended cause kind none = grind (arith, kind, none)
 
 module _ {plan : Plan} {start now : Shown} {live : Live} {ended : Driven} (x : Stops plan start now live ended) where
-  -- a fault ended it
-  pub breaks : IsFault ended → Makes plan start now (visited.Over ended)
-  breaks fault = record {
-    visit = record { history = x.history; hung = []; ended = ended };
+  -- a fault ended it, or one of the hang-ups
+  broken : {next : Shown} {fault : Driven} (made left : History) → IsFault fault
+      → hang_ups (progress_of plan x.history).facts ≡ left ++ made → next.told ≡ with_entries made now.told
+      → CountsNetFault start.counts.faults next.counts.faults fault → Makes plan start next (visited.Over fault)
+  broken {next} {fault} made left is hangs told counted = record {
+    visit = record { history = x.history; hung = made; ended = ended };
     last = record {
-      visited = x.visited [];
-      ends = inr (record {
-        fault = fault;
-        left = hang_ups (progress_of plan x.history).facts;
-        hangs = sym (append-nil (hang_ups (progress_of plan x.history).facts));
-      });
+      visited = x.visited made;
+      ends = inr (record { fault = is; left = left; hangs = hangs });
     };
-    told = x.told;
-    faults = x.counted;
-    kind = fault_end ended fault;
+    told = told_more start.told now.told next.told made x.history x.told told;
+    faults = counted;
+    kind = fault_end fault is;
   }
+
+  pub breaks : IsFault ended → Makes plan start now (visited.Over ended)
+  breaks fault =
+      broken [] (hang_ups (progress_of plan x.history).facts) fault (sym (append-nil _)) (no_entries now.told) x.counted
 
   module _ (not_fault : IsFault ended → ⊥) where
     -- what the variables say is what the calls say
@@ -177,20 +158,9 @@ module _ {plan : Plan} {start now : Shown} {live : Live} {ended : Driven} (x : S
     -- a hang-up failed
     pub unhung : {next : Shown} {fault : Driven} → Hangs now next (hang_ups (facts_in live)) (Err fault)
         → Makes plan start next (visited.Over fault)
-    unhung {next} {fault} h = record {
-      visit = record { history = x.history; hung = h.made; ended = ended };
-      last = record {
-        visited = x.visited h.made;
-        ends = inr (record {
-          fault = h.ends.0;
-          left = h.left;
-          hangs = ap hang_ups (sym facts) ∙ h.parts;
-        });
-      };
-      told = told_more start.told now.told next.told h.made x.history x.told h.told;
-      faults = counts_on _ _ _ fault (no_fault _ _ ended not_fault x.counted) h.ends.1;
-      kind = fault_end fault h.ends.0;
-    }
+    unhung {fault = fault} h =
+        broken h.made h.left h.ends.0 (ap hang_ups (sym facts) ∙ h.parts) h.told
+        (counts_on _ _ _ fault (no_fault _ _ ended not_fault x.counted) h.ends.1)
 
     module _ {next : Shown} (h : Hangs now next (hang_ups (facts_in live)) (Ok (tt {0}))) where
       hangs : h.made ≡ hang_ups (progress_of plan x.history).facts
@@ -238,36 +208,12 @@ module _ {plan : Plan} {start now : Shown} {live : Live} {ended : Driven} (x : S
             kind = last_kind ended _ x.kind no;
           }
 
--- ---- how it ends
-pub ends_so : (ended : Driven) → EndsBy ended (visited.Over ended)
-ends_so (driven.Unreachable turns) = refl
-ends_so driven.Done = tt
-ends_so driven.WriteFault = tt
-ends_so driven.Memory = tt
-ends_so (driven.NetFault failure) = tt
-ends_so (driven.BadLine line cause) = tt
-ends_so (driven.BadCii text reason) = tt
-ends_so (driven.Moved property old new) = tt
-ends_so (driven.Spent turns) = tt
-ends_so (driven.BadUrl property) = tt
-
-pub ends_by_fault : (ended fault : Driven) → IsFault fault → EndsBy ended (visited.Over fault)
-ends_by_fault ended fault f = grind (arith, f)
-
 -- ---- dials
 -- what was tried in the turns goes over to the next visit
-pub tried_next : (plan : Plan) (before now later : Counts) (live : Live) (next : Begun)
-    → next ≡ begun_by plan (facts_in live) → later.dial_faults ≡ now.dial_faults
-    → HasTried plan before now live.own → HasTriedBy before later next
-tried_next plan before now later live next e same tried =
-    subst (λ (x : Begun). HasTriedBy before later x) (sym e) (by plan.begun.reached live.own.cii refl refl)
-  where
-    by : (b : Bool) (o : Option ℕ) → plan.begun.reached ≡ b → live.own.cii ≡ o
-        → 1 ≤ live.own.made → (b || is_some o) ≡ false → HasRisen before.dial_faults later.dial_faults
-    by false None r c some none =
-        subst (λ (n : ℕ). HasRisen before.dial_faults n) (sym same) (tried some r c)
-    by true o r c some none = absurd (cc)
-    by false (Some peer) r c some none = absurd (cc)
+tried_next : (plan : Plan) (before now later : Counts) (live : Live) (ended : Driven) (next : Begun)
+    → later.dial_faults ≡ now.dial_faults → next ≡ begun_by plan (facts_in live) → (IsFault ended → ⊥)
+    → IsFault ended ⊎ HasTried plan before now live.own → HasTriedBy before later next
+tried_next plan before now later live ended next same e not_fault tried = grind (arith, same, e, not_fault, tried)
 
 -- ---- all visits
 pub so_far_first : (run : RelayRun) (begun : Begun) (start : Shown) → begun ≡ nothing_begun
@@ -339,10 +285,8 @@ pub tries : (plan : Plan) (before now later : Counts) (live : Live) (ended : Dri
     → ((turns : ℕ) → ended ≡ driven.Unreachable turns
     → (1 ≤ live.own.made) × (plan.begun.reached ≡ false) × (live.own.cii ≡ None))
     → CountsTries before later result
-tries plan before now later live ended (visited.Next next) same begins ends (inl fault) unreached =
-    absurd (ends fault)
-tries plan before now later live ended (visited.Next next) same begins ends (inr tried) unreached =
-    tried_next plan before now later live next begins same tried
+tries plan before now later live ended (visited.Next next) same begins ends tried unreached =
+    tried_next plan before now later live ended next same begins ends tried
 tries plan before now later live ended (visited.Over (driven.Unreachable turns)) same begins ends
     (inl fault) unreached =
     absurd (subst IsFault ends fault)

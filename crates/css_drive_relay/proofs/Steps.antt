@@ -1,55 +1,45 @@
 -- How a relay's run goes on by a call that is due, which sessions it knows then, what its dials, requests, landings,
 -- answers and sessions make of it, and how it ends.
 use Rattle.std.proofs.Common.{◌≡◌, ℕ, ◌≤◌, ◌<◌, arith, ap, ◌∙◌, refl, Bool, true, false, cond, List, [], ◌∷◌, ◌++◌}
-use Rattle.std.proofs.Common.{Option, Some, None, ◌+◌, sym, subst, ◌||◌, inl, inr, Result, Ok, ap₂, Err}
-use Rattle.std.specs.Prelude.{All, ◌==◌, not, is_some, ◌⊎◌, unwrap_or, MatchResult, ◌&&◌, IfSome, length}
-use Rattle.std.specs.Option.{option_or, option_map}
-use Rattle.std.proofs.lemmas.Bool.{ne_eqb, eq-eqb, cond_both}
-use Rattle.std.proofs.lemmas.Option.{IfSome_then}
-use Rattle.css_model.specs.declared.Message.{Message}
-use Rattle.std.proofs.lemmas.List.Elements.{All-nil, All-filter, All-head, All-cons, All-append, All-weaker}
+use Rattle.std.proofs.Common.{take, Option, Some, None, ◌+◌, sym, subst, ◌||◌, inl, inr, Result, Ok, Err}
+use Rattle.css_drive_relay.specs.Places.{at, Facts, Progress, next_asked, telling_if, Place, after, progress_of, Begun}
+use Rattle.css_drive_relay.specs.Places.{Called, after_dial, after_clock, Asked, beginning, with_turn, Taken, Received}
+use Rattle.css_drive_relay.specs.Places.{Served, received, answering, Welcomed, welcomed, published, television_told}
+use Rattle.css_drive_relay.specs.Places.{is_kept, opened_if, refusal_of}
+use Rattle.std.specs.Prelude.{not, is_some, ◌⊎◌, unwrap_or, MatchResult, ◌&&◌, IfSome, length}
 use Rattle.std.proofs.lemmas.Bool.Decides.{nat_tests}
 use Rattle.css_model.specs.declared.Kind.{Kind}
 use Rattle.css_model.specs.declared.Failure.{Failure}
 use Rattle.css_model.specs.History.{Dialled, Accepted, History, Entry, Slept, Clock, Address, Dialling, NotDialled}
-use Rattle.css_model.specs.History.{Closed, Gone, Heard, Sent, request_in, NoneCame}
-use Rattle.css_companion.specs.Meanings.{kind_of, opens_ts, is_cii, is_ts}
-use Rattle.css_drive.specs.TvRan.{AreBelow, AreNumbered}
-use Rattle.css_drive_relay.specs.Places.{Facts, Progress, next_asked, telling, telling_if, without, Place, after}
-use Rattle.css_drive_relay.specs.Places.{progress_of, Begun, Called, Refused, after_dial, after_clock, Asked, landed}
-use Rattle.css_drive_relay.specs.Places.{landed_at}
-use Rattle.css_drive_relay.specs.Places.{beginning, with_turn, Taken, Received, Served}
-use Rattle.css_drive_relay.specs.Places.{received, answering, Welcomed, welcomed, published, television_told, is_kept}
-use Rattle.css_drive_relay.specs.Places.{opened_if, Asking, refusal_of}
-use Rattle.css_drive_relay.specs.Standing.{AreInOrder, KnowsPeers, named, Knows, Runs, Stops, HasRead, facts_in, stood}
-use Rattle.css_drive_relay.specs.Standing.{Stands, IsAt, IsStop, Keeps, Came, visiting}
+use Rattle.css_model.specs.History.{Closed, Gone, Heard, Sent, request_in, NoneCame, accepted_answers, asking_at}
+use Rattle.css_model.specs.History.{is_sleep, landed_answer, request_by, Took}
+use Rattle.css_companion.specs.Meanings.{kind_of, opens_ts, is_ts, cii_text, closes_ts, ts_text}
+use Rattle.css_drive_relay.specs.Standing.{AreInOrder, Knows, Runs, Stops, HasRead, facts_in, stood, Stands}
+use Rattle.css_drive_relay.specs.Standing.{IsAt, IsStop, Stays, visiting}
 use Rattle.css_model.specs.declared.Why.{Why}
 use Rattle.css_model.specs.Explains.{IsLawful}
-use Rattle.css_model.specs.History.{accepted_answers}
 use Rattle.css_outside.specs.Outsides.{Counts, with_entries, clock_entries, sleep_entries}
 use Rattle.css_outside.specs.declared.calls.Clocked.{Clocked}
-use Rattle.css_agree.specs.Disagreements.{contradicts}
 use Rattle.css_agree.specs.Keeping.{Kept}
-use Rattle.css_client.specs.Landings.{judged_of}
 use Rattle.css_relay.specs.Agreeing.{Agrees, IsAgreementOf}
 use Rattle.css_relay.specs.Lending.{with_companion}
 use Rattle.css_relay.specs.Relays.{Relay, StandsFor, relayed_state, state_of}
 use Rattle.css_drive.specs.CompanionStanding as companions
-use Rattle.css_drive.specs.CompanionStanding.{Shown, Adds, Fails, asked_after, HasDialled, IsEarly, dial_entries}
-use Rattle.css_drive.specs.CompanionStanding.{IsFault, IsRefusal}
+use Rattle.css_drive.specs.CompanionStanding.{Shown, Adds, Fails, asked_after, HasDialled, dial_entries, IsFault}
+use Rattle.css_drive.specs.CompanionStanding.{IsRefusal}
 use Rattle.css_drive.specs.Ends.{MayEnd, CountsNetFault}
 use Rattle.css_drive.specs.Proper.{Due, Now, MayAdd, More, Dial, Ends, Empty, TakeDatagram}
 use Rattle.css_drive.specs.declared.driven.Driven.{Driven}
 use Rattle.css_drive.specs.declared.parting.Parting.{Parting}
 use Rattle.css_drive.proofs.CompanionSteps.{told_more, counts_same, fault_ends, own_quiet, IsOwn, knows_plain}
-use Rattle.css_drive.proofs.CompanionSteps.{knows_tried, lawful_plain, refusal_ends, refusal_own}
-use Rattle.css_drive_relay.specs.Due.{due, due_at, due_for, final, from_taken, from_ask, is_left}
+use Rattle.css_drive.proofs.CompanionSteps.{knows_tried, lawful_plain, refusal_own}
+use Rattle.css_drive_relay.specs.Due.{due_at, due_for, final, from_taken, is_left}
 use Rattle.css_drive_relay.specs.declared.live.Live.{Live}
 use Rattle.css_drive_relay.specs.declared.sessions.Visit.{Visit}
 use Rattle.css_drive_relay.specs.declared.plan.Plan.{Plan}
-use Rattle.css_drive.specs.CompanionDue.{place, end_by}
+use Rattle.css_drive.specs.CompanionDue.{place}
 use Rattle.css_cii.specs.declared.state.State.{State}
-use Rattle.css_drive.specs.CompanionTurns.{goes_on, is_late, is_asking}
+use Rattle.css_drive.specs.CompanionTurns.{goes_on, is_late}
 use Rattle.css_drive.proofs.CompanionEnds.{never_late, no_entries}
 use Rattle.css_outside.specs.Limits.{IsLimit, most_turns}
 use Rattle.css_outside.specs.declared.limit.Limit.{Limit}
@@ -68,68 +58,9 @@ use Rattle.css_model.specs.declared.Kind.TheVariants as kind
 use Rattle.css_drive.specs.declared.driven.Driven.TheVariants as driven
 use Rattle.css_model.specs.declared.Why.TheVariants as why
 use Rattle.css_drive_relay.specs.Places as places
+use Rattle.css_drive_relay.proofs.Peers as peers
+use Rattle.css_drive_relay.proofs.Peers.{named}
 use Rattle.css_outside.specs.declared.calls.Heard.TheVariants as session
-
--- ---- numbers
-pub in_order_later : (n m : ℕ) (h : History) → AreInOrder n h → n ≤ m → AreInOrder m h
-in_order_later n m [] o le = tt
-in_order_later n m (Dialled k peer ∷ older) o le = let lt = o.0 in (omega (arith, lt, le), o.1)
-in_order_later n m (Accepted peer k ∷ older) o le = let lt = o.0 in (omega (arith, lt, le), o.1)
-in_order_later n m (_ ∷ older) o le = in_order_later n m older o le
-
-numbered : (n m : ℕ) (h : History) → AreInOrder n h → n ≤ m → AreBelow m h × AreNumbered h
-numbered n m [] o le = (tt, tt)
-numbered n m (Dialled k peer ∷ older) o le = let lt = o.0 in numbered peer m older o.1 (omega (arith, lt, le))
-numbered n m (Accepted peer k ∷ older) o le =
-    let lt = o.0 in (
-      (omega (arith, lt, le), (numbered peer m older o.1 (omega (arith, lt, le))).0),
-      numbered peer peer older o.1 (omega arith),
-    )
-numbered n m (_ ∷ older) o le = numbered n m older o le
-
--- a peer with a greater number was not dialled
-pub unused : (n : ℕ) (h : History) (peer : ℕ) → AreInOrder n h → n ≤ peer → kind_of peer h ≡ None
-unused n [] peer o le = refl
-unused n (Dialled k q ∷ older) peer o le =
-    let lt = o.0 in
-    let none = unused q older peer o.1 (omega (arith, lt, le)) in grind (arith, nat_tests, lt, le, none)
-unused n (Accepted q k ∷ older) peer o le = let lt = o.0 in unused q older peer o.1 (omega (arith, lt, le))
-unused n (_ ∷ older) peer o le = unused n older peer o le
-
--- one that was accepted has a number below, and was not dialled
-pub undialled : (n : ℕ) (h : History) (peer : ℕ) → AreInOrder n h → Came h peer
-    → (peer < n) × (kind_of peer h ≡ None)
-undialled n [] peer o c = absurd c
-undialled n (Dialled k q ∷ older) peer o c =
-    let lt = o.0 in
-    let x = undialled q older peer o.1 c in grind (arith, nat_tests, lt, x)
-undialled n (Accepted q k ∷ older) peer o (inl e) =
-    let lt = o.0 in (omega (arith, lt, e), unused q older peer o.1 (omega (arith, e)))
-undialled n (Accepted q k ∷ older) peer o (inr c) =
-    let lt = o.0 in
-    let x = undialled q older peer o.1 c in
-    let less = x.0 in (omega (arith, lt, less), x.1)
-undialled n (_ ∷ older) peer o c = undialled n older peer o c
-
--- ---- sessions that places name
-module _ (P : ℕ → Type 0) where
-  pub all_next : (o : Option ℕ) (peers : List ℕ) → All P peers → All P (named (next_asked o peers))
-  all_next o peers all = let none = All-nil P in grind (arith, all, none)
-
-  pub all_telling : (text left : List ℕ) (f : Facts) → All P left → All P f.peers → All P (named (telling text left f))
-  all_telling text left f all peers = grind (arith, all, peers)
-
-  pub all_telling_if : (text : Option (List ℕ)) (f : Facts) → All P f.peers → All P (named (telling_if text f))
-  all_telling_if text f peers = grind (arith, peers)
-
-  pub all_without : (peer : ℕ) (peers : List ℕ) → All P peers → All P (without peer peers)
-  all_without peer = All-filter (λ other. not (other == peer)) P
-
--- a place that names none
-pub unnamed : (history : History) (place : Place) → named place ≡ [] → {A B C : Type 0} → A × B × C
-    → A × All (Came history) (named place) × C
-unnamed history place e x =
-    (x.0, subst (λ (xs : List ℕ). All (Came history) xs) (sym e) (All-nil (Came history)), x.2)
 
 -- ---- what the relay knows
 pub lawful : {plan : Plan} {relay : Relay} {history : History} → Knows plan relay history → IsLawful history
@@ -147,6 +78,11 @@ IsAside h (Heard peer bytes) = kind_of peer h ≡ None
 IsAside h (Closed peer) = is_ts (kind_of peer h) ≡ false
 IsAside h (Gone peer) = is_ts (kind_of peer h) ≡ false
 IsAside h _ = Unit {0}
+
+tells_none : (h : History) (entry : Entry) → IsAside h entry
+    → (is_sleep entry ≡ false) × (asking_at entry ≡ None) × (request_by entry ≡ None) × (landed_answer entry h ≡ None)
+    × (cii_text entry h ≡ None) × (ts_text entry h ≡ None) × ((opens_ts entry || closes_ts entry h) ≡ false)
+tells_none h entry is = grind (arith, is)
 
 -- and no answer
 counts_aside : (own : Local) (h : History) (entry : Entry) → IsAside h entry
@@ -170,28 +106,12 @@ module _ {plan : Plan} {relay : Relay} {history : History} (k : Knows plan relay
 
   pub aside : (entry : Entry) → IsAside history entry → Knows plan relay (entry ∷ history)
   aside entry is = record {
-    companion = by entry is;
+    companion = let x = tells_none history entry is in
+        knows_plain entry k.companion x.0 x.1 x.2 x.3 x.4 x.5 x.6;
     wc_url = k.wc_url;
     agrees = subst (IsAgreementOf plan.run.companion.local relay.agree)
         (sym (counts_aside plan.run.companion.local history entry is)) k.agrees;
   }
-    where
-      by : (entry : Entry) → IsAside history entry
-          → companions.KnowsUnder WallClock plan.run.companion relay.companion (entry ∷ history)
-      by Slept is = absurd is
-      by (Clock why.Ask reading) is = absurd is
-      by (Clock why.Land reading) is = absurd is
-      by (Dialled kind peer) is = absurd is
-      by (Accepted peer kind) is = absurd is
-      by (Sent peer bytes) is =
-          knows_plain (Sent peer bytes) k.companion refl refl
-          (ap (λ (o : Option Message). option_map (λ message. message.originate) o) is) refl refl refl refl
-      by (Heard peer bytes) is =
-          knows_plain (Heard peer bytes) k.companion refl refl refl refl
-          (ap (λ o. cond (is_cii o) (Some bytes) None) is) (ap (λ o. cond (is_ts o) (Some bytes) None) is) refl
-      by (Closed peer) is = knows_plain (Closed peer) k.companion refl refl refl refl refl refl is
-      by (Gone peer) is = knows_plain (Gone peer) k.companion refl refl refl refl refl refl is
-      by entry is = knows_plain entry k.companion refl refl refl refl refl refl refl
 
 pub knows_read : {now next : Shown} {live later : Live} {w : Why} {clocked : Clocked} {plan : Plan} {h : History}
     → HasRead now next live later w clocked → Knows plan live.relay h
@@ -207,36 +127,38 @@ still n h entry is o = grind (arith, is, o)
 fault_kind : (ended : Driven) → IsFault ended → IsStop ended
 fault_kind ended f = grind (arith, f)
 
+-- the run ends, and unless a fault ends it, the variables are those of its calls
+stops_so : {plan : Plan} {start now next : Shown} {live : Live} {p : Progress} {history : History} {ended : Driven}
+    → Runs plan start now p history → IsLawful history → next.told ≡ now.told
+    → CountsNetFault now.counts.faults next.counts.faults ended → IsFault ended ⊎ (facts_in live ≡ p.facts)
+    → IsStop ended → MayEnd (due_for plan history p) ended → Stops plan start next live ended
+stops_so {plan} {start} {now} {next} {live} {p} {history} {ended} s l told counted known kind ends = record {
+  history = history;
+  told = told ∙ s.told;
+  visited = λ hung. record {
+    proper = s.proper;
+    lawful = l;
+    numbered = s.numbered;
+    ends = subst (λ (x : Progress). MayEnd (due_for plan history x) ended) (sym s.progress) ends;
+  };
+  counted = subst (λ (n : ℕ). CountsNetFault n next.counts.faults ended) s.faults counted;
+  kind = kind;
+  known = subst (λ (x : Progress). IsFault ended ⊎ (facts_in live ≡ x.facts)) (sym s.progress) known;
+}
+
 -- a call of the outside failed, so the run ends
 pub stops_by_fault : {plan : Plan} {start now next : Shown} {live : Live} {p : Progress} {history : History}
     {ended : Driven} → Runs plan start now p history → IsLawful history → Fails now next None ended
     → Stops plan start next live ended
-stops_by_fault {plan} {start} {now} {next} {history = history} {ended} s l f =
-    let P : ℕ → Type 0 = λ n. CountsNetFault n next.counts.faults ended in
-    record {
-      history = history;
-      told = f.told ∙ s.told;
-      visited = λ hung. record {
-        proper = s.proper;
-        lawful = l;
-        numbered = s.numbered;
-        ends = fault_ends (due plan history) ended f.end;
-      };
-      counted = subst P s.faults f.counted;
-      kind = fault_kind ended f.end;
-      known = inl f.end;
-    }
+stops_by_fault {plan} {p = p} {history} {ended} s l f =
+    stops_so s l f.told f.counted (inl f.end) (fault_kind ended f.end)
+    (fault_ends (due_for plan history p) ended f.end)
 
 -- ---- a call that is due
--- the run came to this history, and at this place to what follows there
-module _ {plan : Plan} {start now : Shown} {relay : Relay} {history : History} where
-  pub here : {p : Progress} → Stands plan start now relay p history → (h : History) × Stands plan start now relay p h
-  here s = (history, s)
-
-  pub comes : {f : Facts} {place : Place} {Next : History → Place → Type 0}
-      → Stands plan start now relay (record { facts = f; place = place }) history → Next history place
-      → (h : History) × (at : Place) × Stands plan start now relay (record { facts = f; place = at }) h × Next h at
-  comes {place = place} s next = (history, place, s, next)
+-- the run came to this history
+pub here : {plan : Plan} {start now : Shown} {relay : Relay} {history : History} {p : Progress}
+    → Stands plan start now relay p history → (h : History) × Stands plan start now relay p h
+here {history = history} s = (history, s)
 
 -- the facts are the same
 pub stands_with : {plan : Plan} {start now : Shown} {relay : Relay} {history : History} {f g : Facts}
@@ -258,37 +180,34 @@ module _ {plan : Plan} {start now next : Shown} {p : Progress} {history : Histor
   -- its entries are added
   pub runs_more : Runs plan start now p history → (call : History) → MayAdd (due_for plan history p) call
       → next.told ≡ with_entries call now.told → next.counts.faults ≡ now.counts.faults
-      → (q : Progress) → progress_of plan (call ++ history) ≡ q → KnowsPeers q (call ++ history)
+      → (q : Progress) → progress_of plan (call ++ history) ≡ q
       → AreInOrder (next.counts.peers + 1) (call ++ history) → Runs plan start next q (call ++ history)
-  runs_more s call may told faults q progress peers ordered = record {
+  runs_more s call may told faults q progress ordered = record {
     told = told_more start.told now.told next.told call history s.told told;
     faults = faults ∙ s.faults;
     proper = More call (may_as (ap (due_for plan history) s.progress) call may) s.proper;
     progress = progress;
-    peers = peers;
     ordered = ordered;
-    numbered = (numbered _ (next.counts.peers + 1) (call ++ history) ordered (omega arith)).1;
+    numbered = (peers.numbered _ (next.counts.peers + 1) (call ++ history) ordered (omega arith)).1;
   }
 
   -- one entry is added
   pub runs_on : Runs plan start now p history → (entry : Entry) → MayAdd (due_for plan history p) (entry ∷ [])
       → (AreInOrder (now.counts.peers + 1) history → AreInOrder (now.counts.peers + 1) (entry ∷ history))
-      → (KnowsPeers p history → KnowsPeers (after plan entry history p) (entry ∷ history)) → Adds now next (entry ∷ [])
-      → Runs plan start next (after plan entry history p) (entry ∷ history)
-  runs_on s entry may in_order peers a =
+      → Adds now next (entry ∷ []) → Runs plan start next (after plan entry history p) (entry ∷ history)
+  runs_on s entry may in_order a =
       runs_more s (entry ∷ []) may a.told (ap {A = Counts} (λ x. x.faults) a.same) (after plan entry history p)
-      (ap (after plan entry history) s.progress) (peers s.peers)
+      (ap (after plan entry history) s.progress)
       (subst (λ (x : Counts). AreInOrder (x.peers + 1) (entry ∷ history)) (sym a.same) (in_order s.ordered))
 
 module _ {plan : Plan} {start now : Shown} {relay : Relay} {p : Progress} {history : History}
     (s : Stands plan start now relay p history) (entry : Entry) (may : MayAdd (due_for plan history p) (entry ∷ []))
-    (is : IsAside history entry)
-    (peers : KnowsPeers p history → KnowsPeers (after plan entry history p) (entry ∷ history)) where
+    (is : IsAside history entry) where
   -- and it tells the relay nothing
   pub stands_on : {next : Shown} → Adds now next (entry ∷ [])
       → Stands plan start next relay (after plan entry history p) (entry ∷ history)
   stands_on a = record {
-    runs = runs_on s.runs entry may (still (now.counts.peers + 1) history entry is) peers a;
+    runs = runs_on s.runs entry may (still (now.counts.peers + 1) history entry is) a;
     knows = aside s.knows entry is;
   }
 
@@ -299,6 +218,15 @@ module _ {plan : Plan} {start now : Shown} {relay : Relay} {p : Progress} {histo
       (Stops plan start next live)
   made next live (Ok done) a = (_, stands_on a)
   made next live (Err ended) f = stops_by_fault s.runs (lawful s.knows) f
+
+-- a datagram was taken
+pub taken : {plan : Plan} {start now next : Shown} {relay : Relay} {p : Progress} {history : History}
+    → Stands plan start now relay p history → due_for plan history p ≡ TakeDatagram → (room : List ℕ) (peer n : ℕ)
+    → Adds now next (Took peer (take n room) ∷ [])
+    → Stands plan start next relay (at (Taken peer (take n room)) p) (Took peer (take n room) ∷ history)
+taken s d room peer n a =
+    let took = Took peer (take n room) in
+    stands_on s took (may_as d (took ∷ []) (room, Some (peer, n), refl)) tt a
 
 -- ---- the clock
 pub read_facts : {now next : Shown} {live later : Live} {w : Why} {clocked : Clocked}
@@ -313,14 +241,12 @@ module _ {plan : Plan} {start now next : Shown} {live later : Live} {place : Pla
   pub runs_read : Runs plan start now (stood live place) history → due_at plan (facts_in live) history place ≡ Now w
       → HasRead now next live later w clocked → (q : Progress)
       → after_clock plan w clocked.reading (sleep_entries clocked.slept ++ history) (stood later place) ≡ q
-      → (KnowsPeers (stood later place) history → KnowsPeers q history)
       → Runs plan start next q (clock_entries w clocked ++ history)
-  runs_read s is-due r q goes peers =
+  runs_read s is-due r q goes =
       runs_more s (clock_entries w clocked) (may_as is-due (clock_entries w clocked) (clocked, refl)) r.read.told
       r.read.faults q
       (by clocked.slept ∙ ap (λ (f : Facts). after_clock plan w clocked.reading (sleep_entries clocked.slept ++ history)
       (record { facts = f; place = place })) (sym (read_facts r)) ∙ goes)
-      (elim clocked.slept as (λ slept. KnowsPeers q (entries slept)) [ true ↦ known | false ↦ known ])
       (elim clocked.slept as (λ slept. AreInOrder (next.counts.peers + 1) (entries slept))
       [ true ↦ in_order | false ↦ in_order ])
     where
@@ -334,11 +260,6 @@ module _ {plan : Plan} {start now next : Shown} {live later : Live} {place : Pla
           (record { facts = record x.facts { asked = None }; place = x.place })) s.progress
       by false = ap (after_clock plan w clocked.reading history) s.progress
 
-      known : KnowsPeers q history
-      known =
-          peers (subst (λ (f : Facts). KnowsPeers (record { facts = f; place = place }) history) (sym (read_facts r))
-          s.peers)
-
       in_order : AreInOrder (next.counts.peers + 1) history
       in_order = subst (λ (n : ℕ). AreInOrder (n + 1) history) (sym r.read.peers) s.ordered
 
@@ -348,76 +269,26 @@ module _ {plan : Plan} {start now next : Shown} {live later : Live} {place : Pla
       → IsAside (sleep_entries clocked.slept ++ history) (Clock w clocked.reading)
       → HasRead now next live later w clocked → (q : Progress)
       → after_clock plan w clocked.reading (sleep_entries clocked.slept ++ history) (stood later place) ≡ q
-      → (KnowsPeers (stood later place) history → KnowsPeers q history)
       → Stands plan start next later.relay q (clock_entries w clocked ++ history)
-  stands_read s is-due none r q goes peers = record {
-    runs = runs_read s.runs is-due r q goes peers;
+  stands_read s is-due none r q goes = record {
+    runs = runs_read s.runs is-due r q goes;
     knows = aside (knows_read r s.knows) (Clock w clocked.reading) none;
   }
-
-module _ {plan : Plan} {start now mid : Shown} {live later : Live} {history : History} {clocked : Clocked} where
-  -- for a request of the relay's own
-  pub asks : {place : Place} → Runs plan start now (stood live place) history
-      → due_at plan (facts_in live) history place ≡ from_ask plan (facts_in live) history
-      → (peer : ℕ) → live.own.wc ≡ Some peer → is_asking plan.run.ask_every live.own.turn live.own.asked ≡ true
-      → HasRead now mid live later why.Ask clocked
-      → Runs plan start mid (stood later (Asking clocked.reading)) (clock_entries why.Ask clocked ++ history)
-  asks s is-due peer some time r =
-      runs_read s
-      (is-due ∙ ap₂ (λ (o : Option ℕ) (c : Bool). cond (is_some o && c) (Now why.Ask) TakeDatagram) some time) r
-      (stood later (Asking clocked.reading)) refl (unnamed history (Asking clocked.reading) refl)
-
--- ---- landings
-module _ {plan : Plan} {start now mid : Shown} {live later : Live} {history : History} {clocked : Clocked} where
-  pub lands : {peer : ℕ} {bytes : List ℕ} → Runs plan start now (stood live (Taken peer bytes)) history
-      → is_some (request_in bytes) ≡ false → HasRead now mid live later why.Land clocked
-      → Runs plan start mid (landed_at plan clocked.reading (sleep_entries clocked.slept ++ history) (Taken peer bytes)
-      (facts_in later)) (clock_entries why.Land clocked ++ history)
-  lands {peer} {bytes} s none r =
-      runs_read s (ap from_taken none) r _ refl
-      (λ x. unnamed_landed (contradicts plan.run.companion.local clocked.reading
-      (judged_of plan.run.companion.local (sleep_entries clocked.slept ++ history) clocked.reading bytes)
-      (accepted_answers plan.run.companion.local (sleep_entries clocked.slept ++ history))) x)
-    where
-      unnamed_landed : (told : Bool) → KnowsPeers (stood later (Taken peer bytes)) history
-          → KnowsPeers (landed told (facts_in later)) history
-      unnamed_landed true x = (x.0, All-nil (Came history), x.2)
-      unnamed_landed false x = (x.0, All-nil (Came history), x.2)
 
 -- ---- ends
 -- the end is due
 pub stops_here : {plan : Plan} {start now : Shown} {live : Live} {p : Progress} {history : History}
-    → Runs plan start now p history → IsLawful history → facts_in live ≡ p.facts → (ended : Driven) → IsStop ended
-    → IsOwn ended → MayEnd (due_for plan history p) ended → Stops plan start now live ended
-stops_here {plan} {start} {now} {history = history} s l facts ended kind own ends =
-    let P : Due → Type 0 = λ x. MayEnd x ended in
-    record {
-      history = history;
-      told = s.told;
-      visited = λ hung. record {
-        proper = s.proper;
-        lawful = l;
-        numbered = s.numbered;
-        ends = subst P (sym (ap (due_for plan history) s.progress)) ends;
-      };
-      counted = counts_same start.counts.faults now.counts.faults ended (own_quiet ended own) s.faults;
-      kind = kind;
-      known = inr (facts ∙ sym (ap {A = Progress} (λ x. x.facts) s.progress));
-    }
+    → Runs plan start now p history → IsLawful history → (ended : Driven) → IsFault ended ⊎ (facts_in live ≡ p.facts)
+    → IsStop ended → IsOwn ended → MayEnd (due_for plan history p) ended → Stops plan start now live ended
+stops_here {now = now} s l ended known kind own ends =
+    stops_so s l refl (counts_same now.counts.faults now.counts.faults ended (own_quiet ended own) refl) known kind ends
 
 -- memory is wanting
 pub stops_by_memory : {plan : Plan} {start now : Shown} {live : Live} {p : Progress} {history : History}
     → Runs plan start now p history → IsLawful history → (ended : Driven) → ended ≡ driven.Memory
     → Stops plan start now live ended
-stops_by_memory {plan} {start} {now} {live} {history = history} s l ended e =
-    subst (λ (x : Driven). Stops plan start now live x) (sym e) (record {
-      history = history;
-      told = s.told;
-      visited = λ hung. record { proper = s.proper; lawful = l; numbered = s.numbered; ends = tt };
-      counted = counts_same start.counts.faults now.counts.faults driven.Memory (own_quiet driven.Memory tt) s.faults;
-      kind = tt;
-      known = inl tt;
-    })
+stops_by_memory {plan} {start} {now} {live} s l ended e =
+    subst (λ (x : Driven). Stops plan start now live x) (sym e) (stops_here s l driven.Memory (inl tt) tt tt tt)
 
 -- ---- dials
 -- how far the run is once a dial was tried
@@ -427,24 +298,6 @@ called k (Ok peer) f = record { facts = after_dial k peer f; place = Called k }
 
 module _ (live : Live) {plan : Plan} {start now : Shown} {relay : Relay} {history : History} {at : Place}
     (s : Stands plan start now relay (stood live at) history) where
-  -- a dial gave this peer, which no other has
-  knows_dialled : (k : Kind) (q : ℕ) → now.counts.peers < q → opens_ts (Dialled k q) ≡ false
-      → KnowsPeers (called k (Ok q) (facts_in live)) (Dialled k q ∷ history)
-  knows_dialled kind.Cii q lt opens = (
-    s.runs.peers.0,
-    All-nil (Came history),
-    ap (λ b. option_or (cond b (Some kind.Cii) None) (kind_of q history)) (eq-eqb q q refl),
-  )
-  knows_dialled kind.Wc q lt opens = (
-    s.runs.peers.0,
-    All-nil (Came history),
-    IfSome_then live.own.cii_open s.runs.peers.2 (λ peer is.
-        ap (λ b. option_or (cond b (Some kind.Wc) None) (kind_of peer history)) (ne_eqb q peer (λ e.
-        let none = unused (now.counts.peers + 1) history peer s.runs.ordered (omega (arith, lt, e)) in absurd (cc)))
-        ∙ is),
-  )
-  knows_dialled kind.Ts q lt opens = absurd (cc)
-
   pub dialled : {next : Shown} (k : Kind) (to : Address) → due_at plan (facts_in live) history at ≡ Dial k to
       → ((q : ℕ) → opens_ts (Dialled k q) ≡ false) → (tried : Result ℕ Failure) → HasDialled now next k to tried
       → Stands plan start next relay (called k tried (facts_in live)) (dial_entries k to tried ++ history)
@@ -453,8 +306,8 @@ module _ (live : Live) {plan : Plan} {start now : Shown} {relay : Relay} {histor
         (NotDialled k failure ∷ Dialling k to ∷ []) (inr (failure, refl))) d.told d.faults
         (called k (Err failure) (facts_in live))
         (ap (λ (p : Progress). after plan (NotDialled k failure) (Dialling k to ∷ history) p) s.runs.progress)
-        (s.runs.peers.0, All-nil (Came history), s.runs.peers.2)
-        (let later = d.later in in_order_later _ (next.counts.peers + 1) history s.runs.ordered (omega (arith, later)));
+        (let later = d.later in
+        peers.in_order_later _ (next.counts.peers + 1) history s.runs.ordered (omega (arith, later)));
     knows = record {
       companion = knows_tried k to (Err failure) tt s.knows.companion;
       wc_url = s.knows.wc_url;
@@ -468,8 +321,7 @@ module _ (live : Live) {plan : Plan} {start now : Shown} {relay : Relay} {histor
         runs = runs_more s.runs (Dialled k q ∷ Dialling k to ∷ []) (may_as is-due (Dialled k q ∷ Dialling k to ∷ [])
             (inl (q, refl))) d.told d.faults (called k (Ok q) (facts_in live))
             (ap (λ (p : Progress). after plan (Dialled k q) (Dialling k to ∷ history) p) s.runs.progress)
-            (knows_dialled k q (omega (arith, lt)) (opens q))
-            (omega (arith, le), in_order_later _ q history s.runs.ordered (omega (arith, lt)));
+            (omega (arith, le), peers.in_order_later _ q history s.runs.ordered (omega (arith, lt)));
         knows = record {
           companion = knows_tried k to (Ok q) (opens q) s.knows.companion;
           wc_url = s.knows.wc_url;
@@ -484,9 +336,10 @@ pub visits : {plan : Plan} {start now : Shown} (live : Live) (what : Visit) {lef
 visits {plan} {start} {now} live what x e =
     subst (λ (peers : List ℕ). IsAt (visiting what peers) plan start now live) e x
 
-pub keeps_on : {T : Type 0} {old mid new : Counts} {before between now : Live} {result : Result T Driven}
-    → Keeps old mid before between (Ok (tt {0})) → Keeps mid new between now result → Keeps old new before now result
-keeps_on {old} {mid} {new} a b = record {
+pub keeps_on : {T : Type 0} {old mid new : Counts} {before between now : Own} {was midway is : Companion}
+    {result : Result T Driven} → Stays old mid before between was midway (Ok (tt {0}))
+    → Stays mid new between now midway is result → Stays old new before now was is result
+keeps_on {old = old} {mid} {new} a b = record {
   made = b.made ∙ a.made;
   dialled = λ e. a.dialled (b.dialled e);
   dials = omega (arith, a.dials, b.dials);
@@ -501,7 +354,6 @@ at_first plan now = record {
   faults = refl;
   proper = Empty;
   progress = refl;
-  peers = (All-nil (Came []), All-nil (Came []), tt);
   ordered = tt;
   numbered = tt;
 }
@@ -537,8 +389,9 @@ pub over : {plan : Plan} {start now : Shown} {live : Live} {history : History}
     → (ended : Driven) → ended ≡ final plan (facts_in live) → Stops plan start now live ended
 over {plan} {start} {now} {live} s none ended e =
     let d : Driven = final plan (facts_in live) in
-    subst (λ (x : Driven). Stops plan start now live x) (sym e) (stops_here s.runs (lawful s.knows) refl d (grind arith)
-    (grind arith) (subst (λ (b : Bool). MayEnd (cond b (Now why.Turn) (Ends d)) d) (sym none) (grind arith)))
+    subst (λ (x : Driven). Stops plan start now live x) (sym e) (stops_here s.runs (lawful s.knows) d (inr refl)
+    (grind arith) (grind arith)
+    (subst (λ (b : Bool). MayEnd (cond b (Now why.Turn) (Ends d)) d) (sym none) (grind arith)))
 
 -- an unreachable one reached nobody
 pub unreached : (plan : Plan) (f : Facts) (turns : ℕ) → driven.Unreachable turns ≡ final plan f
@@ -551,10 +404,6 @@ unreached plan f turns e = by plan.begun.reached f.cii refl refl e
     by false None r c e = (r, c)
     by true o r c e = absurd (cc)
     by false (Some peer) r c e = absurd (cc)
-
-pub begun_more : (first : Option ℕ) (made : ℕ) → 1 ≤ made → IfSome first (λ x. 1 ≤ made)
-begun_more None made some = tt
-begun_more (Some first) made some = some
 
 -- the first turn isn't the last by its time
 pub was_second : (limit : Limit) → IsLimit limit → (first : Option ℕ) (made reading : ℕ)
@@ -573,11 +422,7 @@ pub begun : {plan : Plan} {start now next : Shown} {live later : Live} {history 
 begun {plan} {live = live} {later} {history} {f} {clocked = clocked} s on r e late is =
     stands_as (stands_with (places.begun plan) e
     (stands_read s
-    (ap (λ b. cond b (Now why.Turn) (Ends (final plan (facts_in live)))) on) tt r
-    _ refl (unnamed history (places.begun plan (with_turn clocked.reading (facts_in later)))
-    (cond_both (is_late plan.run.limit (Some (unwrap_or later.own.first clocked.reading)) (Some clocked.reading))
-    (Asked [])
-    Begun (λ at. named at ≡ []) (λ _. refl) (λ _. refl))))) _
+    (ap (λ b. cond b (Now why.Turn) (Ends (final plan (facts_in live)))) on) tt r _ refl)) _
     (ap {B = Progress} (λ b. record { facts = f; place = cond b (Asked []) Begun }) (sym late ∙ is))
 
 -- ---- requests of others
@@ -603,8 +448,6 @@ module _ {plan : Plan} {start now mid : Shown} {live later : Live} {history : Hi
       stands_read s (ap from_taken some) tt r (stood later (received peer result))
       (known_as later (λ own h. received_after own h clocked.reading bytes) (received peer)
       (knows_read r s.knows) value)
-      (unnamed history (received peer result)
-      (elim result as (λ x. named (received peer x) ≡ []) [ Err bad ↦ refl | Ok ticket ↦ refl ]))
 
   pub answers : {peer : ℕ} {ticket : Ticket}
       → Stands plan start now live.relay (stood live (Received peer ticket)) history
@@ -616,8 +459,7 @@ module _ {plan : Plan} {start now mid : Shown} {live later : Live} {history : Hi
   answers {peer} {ticket} s r result value =
       stands_read s refl tt r (stood later (answering peer result))
       (known_as later (λ own h. datagram_of (answered_after own h clocked.reading ticket)) (answering peer)
-      (knows_read r s.knows) value) (unnamed history (answering peer result)
-      (elim result as (λ x. named (answering peer x) ≡ []) [ Err bad ↦ refl | Ok bytes ↦ refl ]))
+      (knows_read r s.knows) value)
 
 -- ---- sessions that others open
 module _ (live : Live) {plan : Plan} {start now next : Shown} {history : History} {relay : Relay}
@@ -628,7 +470,6 @@ module _ (live : Live) {plan : Plan} {start now next : Shown} {history : History
   none_came told same = record {
     runs = runs_more s.runs (NoneCame ∷ []) (None, refl) told faults (stood live (welcomed (facts_in live)))
         (ap (after plan NoneCame history) s.runs.progress)
-        (s.runs.peers.0, all_next (Came history) live.own.cii_open live.peers.items s.runs.peers.0, s.runs.peers.2)
         (subst (λ (n : ℕ). AreInOrder (n + 1) history) (sym same) s.runs.ordered);
     knows = aside s.knows NoneCame tt;
   }
@@ -640,39 +481,32 @@ module _ (live : Live) {plan : Plan} {start now next : Shown} {history : History
     runs = runs_more s.runs (Accepted peer k ∷ []) (Some (peer, k), refl) told faults
         (opened_if kept peer (facts_in live))
         (ap (after plan (Accepted peer k) history) s.runs.progress
-        ∙ ap (λ b. opened_if b peer (facts_in live)) (sym e)) (peers kept)
-        (omega (arith, is), in_order_later (now.counts.peers + 1) peer history s.runs.ordered (omega (arith, lt)));
+        ∙ ap (λ b. opened_if b peer (facts_in live)) (sym e)) (
+          omega (arith, is),
+          peers.in_order_later (now.counts.peers + 1) peer history s.runs.ordered (omega (arith, lt)),
+        );
     knows = record {
       companion = knows_plain (Accepted peer k) s.knows.companion refl refl refl refl refl refl refl;
       wc_url = s.knows.wc_url;
       agrees = s.knows.agrees;
     };
   }
-    where
-      New : ℕ → Type 0
-      New = Came (Accepted peer k ∷ history)
-
-      all : All New live.peers.items
-      all = All-weaker (Came history) New (λ other c. inr c) live.peers.items s.runs.peers.0
-
-      peers : (b : Bool) → KnowsPeers (opened_if b peer (facts_in live)) (Accepted peer k ∷ history)
-      peers true =
-          let own : All New (peer ∷ []) = All-cons New peer [] (inl refl) (All-nil New) in
-          (All-append New live.peers.items (peer ∷ []) all own, own, s.runs.peers.2)
-      peers false = (all, All-nil New, s.runs.peers.2)
 
 module _ {plan : Plan} {start now : Shown} {p : Progress} {history : History}
     (s : Runs plan start now p history) where
   -- the session that a place names first was not dialled
   pub its_none : {peer : ℕ} {left : List ℕ} → named p.place ≡ peer ∷ left → kind_of peer history ≡ None
-  its_none {peer} {left} e =
-      (undialled (now.counts.peers + 1) history peer s.ordered
-      (All-head (Came history) peer left (subst (λ (xs : List ℕ). All (Came history) xs) e s.peers.1))).1
+  its_none e =
+      peers.first_none plan (now.counts.peers + 1) history s.ordered _ _
+      (ap (λ (x : Progress). named x.place) s.progress ∙ e)
 
   -- the television's was, as one of CSS-CII
   pub its_kind : {peer : ℕ} → p.facts.television ≡ Some peer → kind_of peer history ≡ Some kind.Cii
   its_kind e =
-      let P : Option ℕ → Type 0 = λ o. IfSome o (λ peer. kind_of peer history ≡ Some kind.Cii) in subst P e s.peers.2
+      let n = now.counts.peers + 1 in
+      let P : Option ℕ → Type 0 = λ o. IfSome o (λ peer. (peer < n) × (kind_of peer history ≡ Some kind.Cii)) in
+      (subst P (ap (λ (x : Progress). x.facts.television) s.progress ∙ e)
+      (peers.television_dialled plan n history s.ordered)).1
 
 module _ (live : Live) {plan : Plan} {start now : Shown} {history : History} {relay : Relay} where
   -- ---- publishing
@@ -699,8 +533,17 @@ module _ (live : Live) {plan : Plan} {start now : Shown} {history : History} {re
       stands_as s (stood live (next_asked o live.peers.items)) (ap (λ x. stood live (next_asked x live.peers.items)) e)
 
 -- ---- the television
-refusal_kind : (fault : CompanionFault) (ended : Driven) → IsRefusal (Some fault) ended → IsStop ended
-refusal_kind fault ended r = grind (arith, r)
+-- an end by a text that is refused, or for want of memory
+refusal_kind : (refusal : Option CompanionFault) (ended : Driven) → IsRefusal refusal ended → IsStop ended
+refusal_kind refusal ended r = grind (arith, r)
+
+refusal_facts : (refusal : Option CompanionFault) (state : State) (f : Facts) (ended : Driven)
+    → IsRefusal refusal ended → IsFault ended ⊎ (f ≡ (television_told refusal state f).facts)
+refusal_facts refusal state f ended r = grind (arith, r)
+
+refusal_due : (refusal : Option CompanionFault) (state : State) (f : Facts) (ended : Driven) → IsRefusal refusal ended
+    → (plan : Plan) (history : History) → MayEnd (due_for plan history (television_told refusal state f)) ended
+refusal_due refusal state f ended r plan history = grind (arith, r)
 
 module _ (live : Live) {plan : Plan} {start now next : Shown} {history : History} {relay : Relay} (peer : ℕ)
     (s : Stands plan start now relay (stood live (Welcomed peer)) history) where
@@ -708,41 +551,21 @@ module _ (live : Live) {plan : Plan} {start now next : Shown} {history : History
   heard : (bytes : List ℕ) → Adds now next (Heard peer bytes ∷ [])
       → Runs plan start next (television_told (refusal_of (Some bytes) history)
       (relayed plan (Heard peer bytes ∷ history)) (facts_in live)) (Heard peer bytes ∷ history)
-  heard bytes =
-      let state : State = relayed plan (Heard peer bytes ∷ history) in
-      runs_on s.runs (Heard peer bytes) (session.Text bytes, refl) (λ o. o) (λ x.
-      let told = all_telling_if (Came history) (difference_text live.state state)
-      (record (facts_in live) { state = state }) x.0 in
-      elim (refusal_of (Some bytes) history) as (λ r. KnowsPeers (television_told r state (facts_in live))
-      (Heard peer bytes ∷ history))
-      [ None ↦ (x.0, told, x.2) | Some bad ↦ (x.0, All-nil (Came history), x.2) ])
+  heard bytes a = runs_on s.runs (Heard peer bytes) (session.Text bytes, refl) (λ o. o) a
 
   -- it ends the run
   pub refused : {later : Live} → facts_in later ≡ facts_in live → (bytes : List ℕ)
       → Adds now next (Heard peer bytes ∷ []) → (ended : Driven)
       → IsRefusal (refusal_of (Some bytes) history) ended → Stops plan start next later ended
   refused {later} same bytes a ended r =
-      by (refusal_of (Some bytes) history) (heard bytes a) r
-    where
-      lawful_now : IsLawful (Heard peer bytes ∷ history)
-      lawful_now = lawful_plain (Heard peer bytes) history (lawful s.knows) refl refl
-
-      none_refused : (ended : Driven) → IsRefusal None ended → ended ≡ driven.Memory
-      none_refused ended r = grind (arith, r)
-
-      by_fault : (fault : CompanionFault) (ended : Driven) → IsRefusal (Some fault) ended
-          → Runs plan start next (record { facts = facts_in live; place = Refused fault }) (Heard peer bytes ∷ history)
-          → Stops plan start next later ended
-      by_fault fault driven.Memory r runs = stops_by_memory runs lawful_now driven.Memory refl
-      by_fault fault ended r runs =
-          stops_here runs lawful_now same ended (refusal_kind fault ended r) (refusal_own (Some fault) ended r)
-          (refusal_ends (Some fault) (Ends (end_by fault)) ended r)
-
-      by : (x : Option CompanionFault) → Runs plan start next (television_told x (relayed plan
-          (Heard peer bytes ∷ history)) (facts_in live)) (Heard peer bytes ∷ history) → IsRefusal x ended
-          → Stops plan start next later ended
-      by None runs r = stops_by_memory runs lawful_now ended (none_refused ended r)
-      by (Some fault) runs r = by_fault fault ended r runs
+      let refusal : Option CompanionFault = refusal_of (Some bytes) history in
+      let state : State = relayed plan (Heard peer bytes ∷ history) in
+      stops_here {live = later} (heard bytes a)
+      (lawful_plain (Heard peer bytes) history (lawful s.knows) refl refl) ended
+      (subst (λ (f : Facts). IsFault ended ⊎ (f ≡ (television_told refusal state (facts_in live)).facts)) (sym same)
+      (refusal_facts refusal state (facts_in live) ended r)) (refusal_kind refusal ended r)
+      (refusal_own refusal ended r)
+      (refusal_due refusal state (facts_in live) ended r plan (Heard peer bytes ∷ history))
 
   -- or it is taken in, and the relay publishes
   pub taken_in : (bytes : List ℕ) → Adds now next (Heard peer bytes ∷ []) → refusal_of (Some bytes) history ≡ None

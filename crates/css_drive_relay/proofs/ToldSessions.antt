@@ -1,19 +1,20 @@
 -- What each session of a relay was told and is still to be told, over the calls of a proper run.
 use Rattle.std.proofs.Common.{◌≡◌, ℕ, ◌≤◌, Bool, true, false, cond, eqb, List, [], ◌∷◌, ◌++◌, length, Option, Some}
-use Rattle.std.proofs.Common.{None, refl, sym, ap, subst, ◌∙◌, arith, ◌<◌, append_assoc, zero, suc}
-use Rattle.std.specs.Prelude.{◌||◌, ◌&&◌, unwrap_or, ⊤}
+use Rattle.std.proofs.Common.{None, refl, sym, ap, subst, ◌∙◌, arith, zero, suc}
+use Rattle.std.specs.Prelude.{◌||◌, ◌&&◌, ⊤}
 use Rattle.std.proofs.lemmas.Bool.{cond_both}
 use Rattle.std.proofs.lemmas.Bool.Decides.{nat_tests}
 use Rattle.css_cii.specs.declared.state.State.{State}
 use Rattle.css_sessions.specs.Kept.{difference_text, full_text}
 use Rattle.css_sessions.specs.Told.{latest, with_text, cii_texts}
 use Rattle.css_drive.specs.TvTold.{lost, sent_to, is_gone}
-use Rattle.css_drive.proofs.TvTold.{none_there, numbered_rest}
-use Rattle.css_drive_relay.specs.Places.{Place, Facts, Progress, telling, telling_if, without, opened_if, published}
-use Rattle.css_drive_relay.specs.Places.{Welcomed, Dropping, Asked, progress_of, is_kept, refusal_of}
+use Rattle.css_drive.proofs.TvTold.{numbered_rest}
+use Rattle.css_drive_relay.specs.Places.{Place, Facts, Progress, telling_if, without, opened_if, published, Welcomed}
+use Rattle.css_drive_relay.specs.Places.{Dropping, Asked, progress_of, is_kept, refusal_of}
 use Rattle.css_drive_relay.proofs.Follows.{waiting, text_at, IsToTell, Follows, Followed, followed, Fits, fits}
 use Rattle.css_drive_relay.specs.Told.{SessionStates, with_state, while_open, texts_told, relayed, published_at, has}
-use Rattle.css_drive_relay.specs.Told.{unless_refused, last_published, states_of, SessionsAreTold}
+use Rattle.css_drive_relay.specs.Told.{is_open, published_by, unless_refused, last_published, states_of}
+use Rattle.css_drive_relay.specs.Told.{SessionsAreTold}
 use Rattle.css_companion.specs.declared.fault.CompanionFault.{CompanionFault}
 use Rattle.css_drive.specs.Proper.{Due, Ends}
 use Rattle.css_drive.specs.TvRan.{AreBelow, AreNumbered}
@@ -60,154 +61,76 @@ owed peer p = texts (count peer (waiting p.place)) (text_at p.place p.facts)
 none_owed : (peer : ℕ) (p : Progress) → waiting p.place ≡ [] → owed peer p ≡ []
 none_owed peer p e = ap (λ xs. texts (count peer xs) (text_at p.place p.facts)) e
 
-owed_telling : (peer : ℕ) (text left : List ℕ) (f : Facts)
-    → owed peer (record { facts = f; place = telling text left f }) ≡ texts (count peer left) text
-owed_telling peer text left f = grind arith
-
 -- ---- what stands as the run goes on
 -- these states of a session end with this one
 abbrev pub IsCurrent : Option SessionStates → State → Type 0
 IsCurrent states state = (s : SessionStates) × (states ≡ Some s) × (latest s.opening s.later ≡ state)
 
--- What was sent to a session, what is missing and what is still to be sent are together what it was to be told. The
--- session is open where it stands once among the open ones, and has no states where it is to come.
-pub record Tells (states : Option SessionStates) (last : State) (sent : List (List ℕ)) (gone : Bool) (ToCome : Type 0)
-    (kept : ℕ) (owed : List (List ℕ)) (state : State) : Type 0 where
-  pub missing : List (List ℕ)
-  pub front : texts_told states ≡ owed ++ (missing ++ sent)
-  pub few : length missing ≤ lost gone
-  pub within : length owed ≤ kept
-  pub once : kept ≤ 1
-  pub published : state ≡ last
-  pub live : 0 < kept → IsCurrent states state × (gone ≡ false)
-  pub fresh : ToCome → (kept ≡ 0) × (states ≡ None) × (gone ≡ false)
+-- An open session was sent all that it was to be told, or all but a text that is owed to it. One that isn't open was
+-- sent all, or all but a text that was told as gone.
+pub data Tells (states : Option SessionStates) (state : State) (sent : List (List ℕ))
+    : (gone : Bool) → (kept : ℕ) → (owed : List (List ℕ)) → Type 0 where
+  Whole : IsCurrent states state → texts_told states ≡ sent → Tells states state sent false (suc zero) []
+  Owed : IsCurrent states state → (text : List ℕ) → texts_told states ≡ text ∷ sent
+      → Tells states state sent false (suc zero) (text ∷ [])
+  Over : texts_told states ≡ sent → Tells states state sent false zero []
+  Lost : (text : List ℕ) → texts_told states ≡ text ∷ sent → Tells states state sent true zero []
 
--- nothing was sent to a session that wasn't opened
-right_none : (xs ys : List (List ℕ)) → [] ≡ xs ++ ys → ys ≡ []
-right_none [] ys e = sym e
-right_none (x ∷ xs) ys e = absurd (let f : [] ≡ x ∷ (xs ++ ys) = e in cc)
+same : {states : Option SessionStates} {state s : State} {sent : List (List ℕ)} {gone : Bool} {kept n : ℕ}
+    {owed texts : List (List ℕ)} → Tells states state sent gone kept owed → kept ≡ n → owed ≡ texts → state ≡ s
+    → Tells states s sent gone n texts
+same {states} {state} {s} {sent} {gone} {kept} {n} {owed} {texts} t e f g =
+    subst (λ (m : ℕ). Tells states s sent gone m texts) e
+    (subst (λ (xs : List (List ℕ)). Tells states s sent gone kept xs) f
+    (subst (λ (x : State). Tells states x sent gone kept owed) g t))
 
-module _ {states : Option SessionStates} {last : State} {sent : List (List ℕ)} {gone : Bool} {ToCome : Type 0}
-    {kept : ℕ} {owed : List (List ℕ)} {state : State}
-    (t : Tells states last sent gone ToCome kept owed state) where
-  same : {n : ℕ} {texts : List (List ℕ)} {s : State} → kept ≡ n → owed ≡ texts → state ≡ s
-      → Tells states last sent gone ToCome n texts s
-  same {n} {texts} {s} e f g =
-      subst (λ (m : ℕ). Tells states last sent gone ToCome m texts s) e
-      (subst (λ (xs : List (List ℕ)). Tells states last sent gone ToCome kept xs s) f
-      (subst (λ (x : State). Tells states last sent gone ToCome kept owed x) g t))
-
-  -- less is to come
-  later : {Later : Type 0} → (Later → ToCome) → Tells states last sent gone Later kept owed state
-  later f = record {
-    missing = t.missing;
-    front = t.front;
-    few = t.few;
-    within = t.within;
-    once = t.once;
-    published = t.published;
-    live = t.live;
-    fresh = λ e. t.fresh (f e);
-  }
-
-  -- the session isn't open, whatever the state
-  over : owed ≡ [] → {s l : State} → s ≡ l → Tells states l sent gone ToCome 0 [] s
-  over none e = record {
-    missing = t.missing;
-    front = t.front ∙ ap (λ os. os ++ (t.missing ++ sent)) none;
-    few = t.few;
-    within = omega arith;
-    once = omega arith;
-    published = e;
-    live = λ lt. absurd (omega (arith, lt));
-    fresh = λ e. let f = t.fresh e in (refl, f.1, f.2);
-  }
-
-  -- it is opened
-  opens : owed ≡ [] → ToCome → {Later : Type 0} → (Later → ⊥)
-      → Tells (Some (record { opening = last; later = [] })) last sent gone Later (suc kept) (full_text state ∷ [])
-      state
-  opens none new never =
-      let f = t.fresh new in
-      let closed = f.0 in
-      let unsent : [] ≡ t.missing ++ sent =
-      sym (ap texts_told f.1) ∙ t.front ∙ ap (λ os. os ++ (t.missing ++ sent)) none in
-      record {
-        missing = [];
-        front = ap (λ (s : State). full_text s ∷ []) (sym t.published)
-            ∙ ap (λ xs. full_text state ∷ xs) (sym (right_none t.missing sent unsent));
-        few = omega arith;
-        within = omega arith;
-        once = omega (arith, closed);
-        published = t.published;
-        live = λ lt. ((record { opening = last; later = [] }, refl, sym t.published), f.2);
-        fresh = λ e. absurd (never e);
-      }
-
-  none_missing : 0 < kept → t.missing ≡ []
-  none_missing lt = none_there t.missing (subst (λ (g : Bool). length t.missing ≤ lost g) (t.live lt).1 t.few)
+-- it is opened, and so far it had no states
+opens : {states : Option SessionStates} {state : State} {sent : List (List ℕ)} {gone : Bool} {kept : ℕ}
+    → Tells states state sent gone kept [] → states ≡ None → (last : State) → state ≡ last
+    → Tells (Some (record { opening = last; later = [] })) state sent gone (suc kept) (full_text state ∷ [])
+opens (Whole c e) none last is = absurd (let some = c.1 in cc)
+opens {sent = sent} (Lost text e) none last is =
+    absurd (let f : [] ≡ text ∷ sent = sym (ap texts_told none) ∙ e in cc)
+opens {state = state} (Over e) none last is =
+    Owed (record { opening = last; later = [] }, refl, sym is) (full_text state)
+    (ap (λ (s : State). full_text s ∷ []) (sym is)
+    ∙ ap (λ xs. full_text state ∷ xs) (sym (ap texts_told none) ∙ e))
 
 -- ---- sending
--- a text that is owed was sent, or its session is gone
-module _ {states : Option SessionStates} {last : State} {sent : List (List ℕ)} {gone : Bool} {ToCome : Type 0}
-    {kept : ℕ} {text : List ℕ} {owed : List (List ℕ)} {state : State}
-    (t : Tells states last sent gone ToCome kept (text ∷ owed) state) where
-  within : suc (length owed) ≤ kept
-  within = t.within
+-- a text that is owed was sent
+wrote : {states : Option SessionStates} {state : State} {sent : List (List ℕ)} {gone : Bool} {kept : ℕ} {text : List ℕ}
+    {owed : List (List ℕ)} → Tells states state sent gone kept (text ∷ owed)
+    → Tells states state (text ∷ sent) gone kept owed
+wrote (Owed c text e) = Whole c e
 
-  is_open : 0 < kept
-  is_open = let le = within in omega (arith, le)
+-- or its session is gone
+went : {states : Option SessionStates} {state : State} {sent : List (List ℕ)} {gone : Bool} {kept : ℕ} {text : List ℕ}
+    {owed : List (List ℕ)} → Tells states state sent gone kept (text ∷ owed) → Tells states state sent true 0 owed
+went (Owed c text e) = Lost text e
 
-  none_more : owed ≡ []
-  none_more = none_there owed (let le = within in let once = t.once in omega (arith, le, once))
+-- a session is over that was owed nothing
+ends : {states : Option SessionStates} {state : State} {sent : List (List ℕ)} {gone : Bool} {kept : ℕ}
+    → Tells states state sent gone kept [] → Tells states state sent gone 0 []
+ends (Whole c e) = Over e
+ends (Over e) = Over e
+ends (Lost text e) = Lost text e
 
-  first : texts_told states ≡ owed ++ (text ∷ sent)
-  first =
-      t.front ∙ ap (λ os. (text ∷ os) ++ (t.missing ++ sent)) none_more
-      ∙ ap (λ ms. text ∷ (ms ++ sent)) (none_missing t is_open) ∙ ap (λ os. os ++ (text ∷ sent)) (sym none_more)
-
-  wrote : Tells states last (text ∷ sent) gone ToCome kept owed state
-  wrote = record {
-    missing = [];
-    front = first;
-    few = omega arith;
-    within = let le = within in omega (arith, le);
-    once = t.once;
-    published = t.published;
-    live = t.live;
-    fresh = t.fresh;
-  }
-
-  went : Tells states last sent true ToCome 0 owed state
-  went = record {
-    missing = text ∷ [];
-    front = first;
-    few = omega arith;
-    within = omega (arith, ap length none_more);
-    once = omega arith;
-    published = t.published;
-    live = λ lt. absurd (omega (arith, lt));
-    fresh = λ e. absurd (let lt = is_open in let closed = (t.fresh e).0 in omega (arith, lt, closed));
-  }
-
-module _ {states : Option SessionStates} {last : State} {sent : List (List ℕ)} {gone : Bool} {ToCome : Type 0}
-    {kept : ℕ} {state : State} where
+module _ {states : Option SessionStates} {state : State} {sent : List (List ℕ)} {gone : Bool} {kept : ℕ} where
   wrote_one : (same : Bool) (n : ℕ) (text : List ℕ)
-      → Tells states last sent gone ToCome kept (texts (cond same (suc n) n) text) state
-      → Tells states last (with_text (cond same (Some text) None) sent) gone ToCome kept (texts n text) state
+      → Tells states state sent gone kept (texts (cond same (suc n) n) text)
+      → Tells states state (with_text (cond same (Some text) None) sent) gone kept (texts n text)
   wrote_one true n text t = wrote t
   wrote_one false n text t = t
 
   went_one : (same : Bool) (n : ℕ) (text : List ℕ)
-      → Tells states last sent gone ToCome kept (texts (cond same (suc n) n) text) state
-      → Tells states last sent (same || gone) ToCome (cond same 0 kept) (texts n text) state
+      → Tells states state sent gone kept (texts (cond same (suc n) n) text)
+      → Tells states state sent (same || gone) (cond same 0 kept) (texts n text)
   went_one true n text t = went t
   went_one false n text t = t
 
-  -- a session is over that was owed nothing
-  lost_one : (same : Bool) → Tells states last sent gone ToCome kept [] state
-      → Tells states last sent gone ToCome (cond same 0 kept) [] state
-  lost_one true t = over t refl t.published
+  lost_one : (same : Bool) → Tells states state sent gone kept []
+      → Tells states state sent gone (cond same 0 kept) []
+  lost_one true t = ends t
   lost_one false t = t
 
 -- ---- publishing
@@ -219,53 +142,69 @@ owed_published : (peer : ℕ) (f : Facts) (text : Option (List ℕ))
     → owed peer (record { facts = f; place = telling_if text f }) ≡ owed_by text (count peer f.peers)
 owed_published peer f text = grind arith
 
-publishes : {states : Option SessionStates} {last : State} {sent : List (List ℕ)} {gone : Bool} {ToCome : Type 0}
-    (kept : ℕ) {state : State} → Tells states last sent gone ToCome kept [] state → (s : State)
-    → Tells (with_state (while_open (Some s) (any kept)) states) s sent gone ToCome kept
-    (owed_by (difference_text state s) kept) s
-publishes zero {state} t s =
-    same (over t refl refl) refl
-    (elim (difference_text state s) as (λ x. [] ≡ owed_by x 0) [ None ↦ refl | Some text ↦ refl ]) refl
-publishes (suc zero) {state} t s =
-    let o = t.live (omega arith) in
-    let was : SessionStates = o.0.0 in
-    record {
-      missing = t.missing;
-      front = ap (λ (x : Option SessionStates). texts_told (with_state (Some s) x)) o.0.1
-          ∙ ap (λ (x : State). with_text (difference_text x s) (cii_texts was.opening was.later)) o.0.2
-          ∙ owes (difference_text state s) (cii_texts was.opening was.later)
-          ∙ ap (λ xs. owed_by (difference_text state s) 1 ++ xs) (sym (ap texts_told o.0.1) ∙ t.front);
-      few = t.few;
-      within =
-          elim (difference_text state s) as (λ x. length (owed_by x 1) ≤ 1)
-          [ None ↦ omega arith | Some text ↦ omega arith ];
-      once = t.once;
-      published = refl;
-      live = λ lt. (
-        (
-          record { opening = was.opening; later = s ∷ was.later },
-          ap (λ (x : Option SessionStates). with_state (Some s) x) o.0.1,
-          refl,
-        ),
-        o.1,
-      );
-      fresh = λ e. absurd (let closed = (t.fresh e).0 in omega (arith, closed));
-    }
-  where
-    owes : (text : Option (List ℕ)) (xs : List (List ℕ)) → with_text text xs ≡ owed_by text 1 ++ xs
-    owes None xs = refl
-    owes (Some text) xs = refl
-publishes (suc (suc n)) t s = absurd (let once = t.once in omega (arith, once))
+none_by : (text : Option (List ℕ)) → [] ≡ owed_by text 0
+none_by None = refl
+none_by (Some text) = refl
+
+owes : {states : Option SessionStates} {state : State} {sent : List (List ℕ)} → IsCurrent states state
+    → (text : Option (List ℕ)) → texts_told states ≡ with_text text sent
+    → Tells states state sent false (suc zero) (owed_by text (suc zero))
+owes c None e = Whole c e
+owes c (Some text) e = Owed c text e
+
+publishes : {states : Option SessionStates} {sent : List (List ℕ)} {gone : Bool} {kept : ℕ} {state : State}
+    → Tells states state sent gone kept [] → (s : State)
+    → Tells (with_state (while_open (Some s) (any kept)) states) s sent gone kept
+    (owed_by (difference_text state s) kept)
+publishes {states} {sent} {state = state} (Over e) s =
+    subst (λ (xs : List (List ℕ)). Tells states s sent false zero xs) (none_by (difference_text state s)) (Over e)
+publishes {states} {sent} {state = state} (Lost text e) s =
+    subst (λ (xs : List (List ℕ)). Tells states s sent true zero xs) (none_by (difference_text state s)) (Lost text e)
+publishes {states} {sent} {state = state} (Whole c e) s =
+    let was : SessionStates = c.0 in
+    owes (
+      record { opening = was.opening; later = s ∷ was.later },
+      ap (λ (x : Option SessionStates). with_state (Some s) x) c.1,
+      refl,
+    ) (difference_text state s)
+    (ap (λ (x : Option SessionStates). texts_told (with_state (Some s) x)) c.1
+    ∙ ap (λ (x : State). with_text (difference_text x s) (cii_texts was.opening was.later)) c.2
+    ∙ ap (with_text (difference_text state s)) (sym (ap texts_told c.1) ∙ e))
+
+-- ---- what was published
+after_state : (plan : Plan) (older : History) (entry : Entry)
+    → (progress_of plan older).facts.state ≡ last_published plan older
+    → (progress_of plan (entry ∷ older)).facts.state ≡ last_published plan (entry ∷ older)
+after_state plan older entry was = grind (arith, was)
+
+-- the state that was published last is the one that the run tells
+state_is : (plan : Plan) (h : History) → (progress_of plan h).facts.state ≡ last_published plan h
+state_is plan [] = refl
+state_is plan (entry ∷ older) = after_state plan older entry (state_is plan older)
+
+with_none : (state : Option State) → with_state state None ≡ None
+with_none None = refl
+with_none (Some state) = refl
+
+-- a session that is to come has no states
+none_yet : (plan : Plan) (peer : ℕ) (h : History) → AreBelow peer h → states_of plan peer h ≡ None
+none_yet plan peer [] below = refl
+none_yet plan peer (Accepted other k ∷ older) below =
+    let lt = below.0 in
+    let none = none_yet plan peer older below.1 in grind (arith, nat_tests, lt, none)
+none_yet plan peer (Heard other bytes ∷ older) below =
+    let now : Option State = while_open (published_by plan (Heard other bytes) older) (is_open plan peer older) in
+    ap (with_state now) (none_yet plan peer older below) ∙ with_none now
+none_yet plan peer (_ ∷ older) below = none_yet plan peer older below
 
 -- ---- peers
 -- what holds of a peer's session after a history
-abbrev pub GoodAt : Plan → ℕ → Option SessionStates → State → History → Progress → Type 0
-GoodAt plan peer states last h p =
-    Tells states last (sent_to peer h) (is_gone peer h) (AreBelow peer h) (count peer p.facts.peers) (owed peer p)
-    p.facts.state
+abbrev pub GoodAt : ℕ → Option SessionStates → History → Progress → Type 0
+GoodAt peer states h p =
+    Tells states p.facts.state (sent_to peer h) (is_gone peer h) (count peer p.facts.peers) (owed peer p)
 
 abbrev pub Good : Plan → ℕ → History → Type 0
-Good plan peer h = GoodAt plan peer (states_of plan peer h) (last_published plan h) h (progress_of plan h)
+Good plan peer h = GoodAt peer (states_of plan peer h) h (progress_of plan h)
 
 -- ---- places after a text
 owes_told : (peer : ℕ) (place : Place) (f g : Facts) (text : List ℕ) → text_at place f ≡ text
@@ -302,11 +241,11 @@ module _ (plan : Plan) (peer : ℕ) (older : History) (t : Good plan peer older)
   next entry = progress_of plan (entry ∷ older)
 
   abbrev At : Progress → Type 0
-  At = GoodAt plan peer (states_of plan peer older) (last_published plan older) older
+  At = GoodAt peer (states_of plan peer older) older
 
   module _ (none : waiting p.place ≡ []) where
-    idle : Tells (states_of plan peer older) (last_published plan older) (sent_to peer older) (is_gone peer older)
-        (AreBelow peer older) (count peer p.facts.peers) [] p.facts.state
+    idle : Tells (states_of plan peer older) p.facts.state (sent_to peer older) (is_gone peer older)
+        (count peer p.facts.peers) []
     idle = same t refl (none_owed peer p none) refl
 
     -- the same sessions and the same state, with nothing to be sent
@@ -326,9 +265,8 @@ module _ (plan : Plan) (peer : ℕ) (older : History) (t : Good plan peer older)
     after_closed other place e = stays (places.closed other place p.facts) refl refl e
 
     after_heard : (other : ℕ) (bytes : List ℕ) (place : Place) → waiting place ≡ []
-        → GoodAt plan peer (with_state (while_open (published_at plan other bytes older place) (has peer p.facts.peers))
-        (states_of plan peer older)) (unwrap_or (published_at plan other bytes older place) (last_published plan older))
-        older (places.heard plan other bytes older place p.facts)
+        → GoodAt peer (with_state (while_open (published_at plan other bytes older place) (has peer p.facts.peers))
+        (states_of plan peer older)) older (places.heard plan other bytes older place p.facts)
     after_heard other bytes (Welcomed q) e = told (refusal_of (Some bytes) older)
       where
         state : State
@@ -336,14 +274,12 @@ module _ (plan : Plan) (peer : ℕ) (older : History) (t : Good plan peer older)
 
         -- the text of the television is refused, or what the relay tells after it is published
         told : (refusal : Option CompanionFault)
-            → GoodAt plan peer (with_state (while_open (unless_refused refusal state) (has peer p.facts.peers))
-            (states_of plan peer older)) (unwrap_or (unless_refused refusal state) (last_published plan older)) older
-            (places.television_told refusal state p.facts)
+            → GoodAt peer (with_state (while_open (unless_refused refusal state) (has peer p.facts.peers))
+            (states_of plan peer older)) older (places.television_told refusal state p.facts)
         told (Some fault) = stays (places.television_told (Some fault) state p.facts) refl refl refl
         told None =
-            subst (λ (b : Bool). GoodAt plan peer (with_state (while_open (Some state) b) (states_of plan peer older))
-            state older (published state p.facts)) (sym (has_count peer p.facts.peers))
-            (same (publishes (count peer p.facts.peers) idle state) refl
+            subst (λ (b : Bool). GoodAt peer (with_state (while_open (Some state) b) (states_of plan peer older)) older
+            (published state p.facts)) (sym (has_count peer p.facts.peers)) (same (publishes idle state) refl
             (sym (owed_published peer (record p.facts { state = state }) (difference_text p.facts.state state))) refl)
     after_heard other bytes (Asked left) e = loses other (Dropping other (places.without_first left)) refl
     after_heard other bytes place e = stays (places.heard plan other bytes older place p.facts) refl refl e
@@ -357,35 +293,30 @@ module _ (plan : Plan) (peer : ℕ) (older : History) (t : Good plan peer older)
         ∙ ap (λ x. cond x (suc (count peer p.facts.peers)) (count peer p.facts.peers)) is)
 
     opened : (other : ℕ) (k : Kind) (same kept : Bool) → AreBelow other older → eqb other peer ≡ same
-        → Tells (cond (same && kept) (Some (record { opening = last_published plan older; later = [] }))
-        (states_of plan peer older)) (last_published plan older) (sent_to peer older) (is_gone peer older)
-        (AreBelow peer (Accepted other k ∷ older)) (count peer (opened_if kept other p.facts).facts.peers)
-        (owed peer (opened_if kept other p.facts)) (opened_if kept other p.facts).facts.state
+        → GoodAt peer (cond (same && kept) (Some (record { opening = last_published plan older; later = [] }))
+        (states_of plan peer older)) older (opened_if kept other p.facts)
     opened other k true true below is =
-        same (opens idle refl (subst (λ (n : ℕ). AreBelow n older) (grind (arith, nat_tests, is)) below)
-        (λ b. let less = b.0 in grind (arith, nat_tests, is, less)))
-        (kept_last other _ is)
+        same (opens idle (none_yet plan peer older (subst (λ (n : ℕ). AreBelow n older) (grind (arith, nat_tests, is))
+        below)) (last_published plan older) (state_is plan older)) (kept_last other _ is)
         (sym (ap (λ b. texts (cond b 1 0) (full_text p.facts.state)) is)) refl
     opened other k false true below is =
-        same (later idle (λ b. b.1)) (kept_last other _ is)
-        (sym (ap (λ b. texts (cond b 1 0) (full_text p.facts.state)) is)) refl
-    opened other k true false below is = later idle (λ b. b.1)
-    opened other k false false below is = later idle (λ b. b.1)
+        same idle (kept_last other _ is) (sym (ap (λ b. texts (cond b 1 0) (full_text p.facts.state)) is)) refl
+    opened other k true false below is = idle
+    opened other k false false below is = idle
 
   -- what is owed, where this text is to be sent to this session
   due : (other : ℕ) (text : List ℕ) → IsToTell p.facts p.place other text
-      → Tells (states_of plan peer older) (last_published plan older) (sent_to peer older) (is_gone peer older)
-      (AreBelow peer older) (count peer p.facts.peers) (texts (cond (eqb other peer)
-      (suc (count peer (places.without_first (waiting p.place)))) (count peer (places.without_first (waiting p.place))))
-      text) p.facts.state
+      → let left = count peer (places.without_first (waiting p.place)) in
+      Tells (states_of plan peer older) p.facts.state (sent_to peer older) (is_gone peer older)
+      (count peer p.facts.peers) (texts (cond (eqb other peer) (suc left) left) text)
   due other text c =
       same t refl (ap (λ xs. texts (count peer xs) (text_at p.place p.facts)) c.0 ∙ ap (texts _) c.1) refl
 
   after_gone : (other : ℕ) (text : List ℕ) → IsToTell p.facts p.place other text → Good plan peer (Gone other ∷ older)
   after_gone other text c =
       let g : Facts = places.lost other p.facts in
-      subst (λ (q : Progress). GoodAt plan peer (states_of plan peer older) (last_published plan older)
-      (Gone other ∷ older) q) (sym (gone_told p.place p.facts other c.0))
+      subst (λ (q : Progress). GoodAt peer (states_of plan peer older) (Gone other ∷ older) q)
+      (sym (gone_told p.place p.facts other c.0))
       (same (went_one (eqb other peer) _ text (due other text c)) (sym (count_without peer other p.facts.peers))
       (owes_told peer p.place p.facts g text c.1) refl)
 
@@ -410,16 +341,7 @@ module _ (plan : Plan) (peer : ℕ) (older : History) (t : Good plan peer older)
 
 -- ---- the run
 all_good : (plan : Plan) (peer : ℕ) (h : History) → Followed plan h → AreNumbered h → Good plan peer h
-all_good plan peer [] each numbered = record {
-  missing = [];
-  front = refl;
-  few = omega arith;
-  within = omega arith;
-  once = omega arith;
-  published = refl;
-  live = λ lt. absurd (omega (arith, lt));
-  fresh = λ e. (refl, refl, refl);
-}
+all_good plan peer [] each numbered = Over refl
 all_good plan peer (entry ∷ older) each numbered =
     after plan peer older (all_good plan peer older each.1 (numbered_rest (entry ∷ []) older numbered)) entry each.0
     numbered
@@ -429,27 +351,24 @@ ended_waits : (plan : Plan) (f : Facts) (place : Place) (ended : Driven) → Fit
     → waiting place ≡ []
 ended_waits plan f place ended c = grind (arith, c)
 
--- what is unsent are at most a text that is owed and one that was lost, and not both
-few_unsent : {states : Option SessionStates} {last : State} {sent : List (List ℕ)} {gone : Bool} {ToCome : Type 0}
-    {kept : ℕ} {owed : List (List ℕ)} {state : State} (t : Tells states last sent gone ToCome kept owed state)
-    → length (owed ++ t.missing) ≤ 1
-few_unsent {gone = true} {owed = []} t = t.few
-few_unsent {gone = false} {owed = []} t = let few = t.few in omega (arith, few)
-few_unsent {owed = text ∷ owed} t =
-    subst (λ (ms : List (List ℕ)). length ((text ∷ owed) ++ ms) ≤ 1) (sym (none_missing t (is_open t)))
-    (subst (λ (os : List (List ℕ)). length ((text ∷ os) ++ []) ≤ 1) (sym (none_more t)) (omega arith))
+-- what is unsent
+unsent_of : {states : Option SessionStates} {state : State} {sent : List (List ℕ)} {gone : Bool} {kept : ℕ}
+    {owed : List (List ℕ)} → Tells states state sent gone kept owed
+    → (unsent : List (List ℕ)) × (texts_told states ≡ unsent ++ sent) × (length unsent ≤ 1)
+    × (owed ≡ [] → length unsent ≤ lost gone)
+unsent_of (Whole c e) = ([], e, omega arith, λ none. omega arith)
+unsent_of (Owed c text e) = (text ∷ [], e, omega arith, λ none. absurd (cc))
+unsent_of (Over e) = ([], e, omega arith, λ none. omega arith)
+unsent_of (Lost text e) = (text ∷ [], e, omega arith, λ none. omega arith)
 
 pub sessions_are_told : SessionsAreTold
 sessions_are_told plan h proper numbered peer =
     let p : Progress = progress_of plan h in
-    let t : Good plan peer h = all_good plan peer h (followed plan h proper) numbered in
+    let u = unsent_of (all_good plan peer h (followed plan h proper) numbered) in
     record {
-      unsent = owed peer p ++ t.missing;
-      first = t.front ∙ sym (append_assoc (owed peer p) t.missing (sent_to peer h));
-      few = few_unsent t;
-      ended =
-          λ ended e.
-          subst (λ (os : List (List ℕ)). length (os ++ t.missing) ≤ lost (is_gone peer h))
-          (sym (none_owed peer p (ended_waits plan p.facts p.place ended
-          (subst (λ (d : Due). Fits plan p.facts p.place d) e (fits plan p.facts h p.place))))) t.few;
+      unsent = u.0;
+      first = u.1;
+      few = u.2;
+      ended = λ ended e. u.3 (none_owed peer p (ended_waits plan p.facts p.place ended
+          (subst (λ (d : Due). Fits plan p.facts p.place d) e (fits plan p.facts h p.place))));
     }

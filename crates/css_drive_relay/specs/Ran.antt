@@ -1,10 +1,11 @@
 -- What a relay comes to: its visits, one after another.
 use Rattle.std.specs.Prelude.{◌≡◌, ◌⊎◌, ℕ, false, List, [], ◌∷◌, ◌++◌, length, ⊤, ◌||◌, is_some, Option, Some, None}
+use Rattle.std.specs.Option.{option_to_list}
 use Rattle.std.specs.Str.{IsUtf8}
 use Rattle.css_model.specs.Explains.{IsLawful}
 use Rattle.css_model.specs.History.{History, HungUp, Listening}
 use Rattle.css_outside.specs.Outsides.{Counts, with_entries}
-use Rattle.css_drive.specs.CompanionStanding.{IsFault, hung}
+use Rattle.css_drive.specs.CompanionStanding.{IsFault}
 use Rattle.css_drive.specs.TvRan.{AreNumbered}
 use Rattle.css_drive.specs.Ends.{MayEnd, CountsNetFault, CountsDialFaults}
 use Rattle.css_drive.specs.Visits.{AreFollowed, Visit, Visiting, begun_after, entries_of, last_entries, most_visits}
@@ -51,7 +52,7 @@ hung_all (peer ∷ peers) = hung_all peers ++ HungUp peer ∷ []
 
 -- those of the sessions that are open: the accepted ones in the order in which they came, and then the television's
 abbrev pub hang_ups : Facts → History
-hang_ups f = hung f.television ++ hung_all f.peers
+hang_ups f = hung_all (f.peers ++ option_to_list f.television)
 
 -- what goes over to the visit that follows this one
 abbrev pub begun_by : Plan → Facts → Begun

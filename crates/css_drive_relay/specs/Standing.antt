@@ -1,6 +1,6 @@
 -- How the variables of a relay's run stand for its history.
-use Rattle.std.specs.Prelude.{◌≡◌, ◌≤◌, ◌<◌, ◌+◌, ℕ, List, [], ◌∷◌, ◌++◌, All, Some, None, IfSome, ◌⊎◌, Result, Ok, Err}
-use Rattle.std.specs.Prelude.{Option, MatchResult, OnOk, IfErr, ⊤, Bool, true, false}
+use Rattle.std.specs.Prelude.{◌≡◌, ◌≤◌, ◌<◌, ◌+◌, ℕ, List, [], ◌∷◌, ◌++◌, None, ◌⊎◌, Result, Ok, Err, Option}
+use Rattle.std.specs.Prelude.{MatchResult, OnOk, IfErr, ⊤, Bool, true, false, Some, if◌then◌else◌}
 use Rattle.css_model.specs.declared.Kind.TheVariants as kind
 use Rattle.css_model.specs.declared.Why.{Why}
 use Rattle.css_model.specs.History.{History, Address, Dialled, Accepted, Took}
@@ -8,7 +8,6 @@ use Rattle.css_cii.specs.declared.name.CiiName.TheVariants.{WcUrl}
 use Rattle.css_outside.specs.Faults.{HasRisen}
 use Rattle.css_outside.specs.Outsides.{Counts, with_entries}
 use Rattle.css_outside.specs.declared.calls.Clocked.{Clocked}
-use Rattle.css_companion.specs.Meanings.{kind_of}
 use Rattle.css_companion.specs.Standing.{Companion}
 use Rattle.css_companion.specs.declared.binding.Binding.TheVariants.{WallClock}
 use Rattle.css_drive.specs.declared.companion_live.Live.{Live as Own}
@@ -25,8 +24,8 @@ use Rattle.css_drive.specs.Proper.{Due}
 use Rattle.css_drive.specs.TvRan.{AreNumbered}
 use Rattle.css_drive.specs.declared.driven.Driven.{Driven}
 use Rattle.css_drive.specs.declared.driven.Driven.TheVariants as driven
-use Rattle.css_drive_relay.specs.Places.{Place, Greeting, Telling, Asked, Dropping, Served, Taken, Facts, Progress}
-use Rattle.css_drive_relay.specs.Places.{progress_of, telling}
+use Rattle.css_drive.specs.declared.parting.Parting.{Parting}
+use Rattle.css_drive_relay.specs.Places.{Place, Asked, Served, Taken, Facts, Progress, progress_of, telling}
 use Rattle.css_drive_relay.specs.Ran.{IsRelayEnd, IsVisit}
 use Rattle.css_drive_relay.specs.Due.{due_at, IsProperRelay}
 use Rattle.css_drive_relay.specs.declared.plan.Plan.{Plan}
@@ -62,25 +61,6 @@ AreInOrder n (Dialled kind peer ∷ older) = (peer < n) × AreInOrder peer older
 AreInOrder n (Accepted peer kind ∷ older) = (peer < n) × AreInOrder peer older
 AreInOrder n (_ ∷ older) = AreInOrder n older
 
--- a session of this peer was accepted
-abbrev pub Came : History → ℕ → Type 0
-Came [] peer = ⊥
-Came (Accepted other kind ∷ older) peer = (other ≡ peer) ⊎ Came older peer
-Came (_ ∷ older) peer = Came older peer
-
--- the accepted sessions that a place names
-abbrev pub named : Place → List ℕ
-named (Greeting peer) = peer ∷ []
-named (Telling text left) = left
-named (Asked left) = left
-named (Dropping peer left) = left
-named _ = []
-
--- the sessions were accepted, and the television's was dialled
-abbrev pub KnowsPeers : Progress → History → Type 0
-KnowsPeers p history = All (Came history) p.facts.peers × All (Came history) (named p.place)
-    × IfSome p.facts.television (λ peer. kind_of peer history ≡ Some kind.Cii)
-
 -- the facts that the variables say, at a place
 abbrev pub stood : Live → Place → Progress
 stood live place = record { facts = facts_in live; place = place }
@@ -92,7 +72,6 @@ pub record Runs (plan : Plan) (start now : Shown) (p : Progress) (history : Hist
   pub faults : now.counts.faults ≡ start.counts.faults
   pub proper : IsProperRelay plan history
   pub progress : progress_of plan history ≡ p
-  pub peers : KnowsPeers p history
   pub ordered : AreInOrder (now.counts.peers + 1) history
   pub numbered : AreNumbered history
 
@@ -177,17 +156,12 @@ Lands told counts plan old new was is peer bytes result = (start : Shown) (histo
     → MatchResult result (λ on. IsAt (goes_on_at (λ f. Served) on) plan start (shown (told new) (counts new)) is)
     (Stops plan start (shown (told new) (counts new)) is)
 
--- What every stage of a turn leaves as it is. Failed dials are counted, the relay knows no reading above the last one,
--- and no end comes that is one of turns that are made.
-pub record Keeps {T : Type 0} (old new : Counts) (before now : Live) (result : Result T Driven) : Type 0 where
-  pub made : now.own.made ≡ before.own.made
-  pub dialled : now.own.cii ≡ None → before.own.cii ≡ None
-  pub dials : old.dial_faults ≤ new.dial_faults
-  pub floor : before.relay.companion.client.floor ≤ old.last
-      → OnOk result (now.relay.companion.client.floor ≤ new.last)
-  pub early : IfErr result IsEarly
+-- the visit is cut short for a reason
+abbrev pub cut_if : Bool → Parting → Live → Live
+cut_if is_cut parting live = record live { parting = if is_cut then Some parting else live.parting }
 
--- What every call of the television leaves as it is, of what the relay keeps as a companion.
+-- What every call leaves as it is, of what the relay keeps as a companion. Failed dials are counted, the companion
+-- knows no reading above the last one, and no end comes that is one of turns that are made.
 pub record Stays {T : Type 0} (old new : Counts) (before now : Own) (was is : Companion) (result : Result T Driven)
     : Type 0 where
   pub made : now.made ≡ before.made
@@ -195,6 +169,11 @@ pub record Stays {T : Type 0} (old new : Counts) (before now : Own) (was is : Co
   pub dials : old.dial_faults ≤ new.dial_faults
   pub floor : was.client.floor ≤ old.last → OnOk result (is.client.floor ≤ new.last)
   pub early : IfErr result IsEarly
+
+-- so does every stage of a turn
+abbrev pub Keeps : {T : Type 0} → Counts → Counts → Live → Live → Result T Driven → Type 0
+Keeps old new before now result =
+    Stays old new before.own now.own before.relay.companion now.relay.companion result
 
 -- The session of CSS-CII is dialled, then the wall clock, and then it is asked: all three went well, or the first that
 -- didn't ended the run.

@@ -4,13 +4,13 @@ ghost use Rattle.css_relay.specs.Relays.{relayed_state};
 ghost use Rattle.css_drive.specs.CompanionStanding.{shown};
 ghost use Rattle.css_drive_relay.specs.Places as places;
 ghost use Rattle.css_drive_relay.specs.Places.{Served, Asked, welcomed, published};
-ghost use Rattle.css_drive_relay.specs.Ran.{hang_ups, hung_all};
+ghost use Rattle.css_drive_relay.specs.Ran.{hang_ups};
 ghost use Rattle.css_drive_relay.specs.Standing.{facts_in, goes_on_at, placed, visiting};
 ghost use Rattle.css_drive_relay.specs.Standing.{Hangs, IsAt, Keeps, Leads, LeadsBy};
 
 use crate::live::{Live, Published};
 use crate::plan::Plan;
-use crate::stages::or_memory;
+use crate::stages::{cut_if, or_memory};
 use crate::television::hear;
 use css_drive::calls::{end_of, hang_up, send_text, take_text};
 use css_drive::{Driven, Parting, Session};
@@ -162,32 +162,19 @@ pub fn hear_television<O: Outside>(live: &mut Live, outside: &mut O) -> Result<b
         publish(live, outside)?;
         return Ok(true);
     }
-    if has_closed(was, live.own.cii_open) {
-        live.parting = Some(Parting::Closed(Session::Cii));
-        return Ok(false);
-    }
-    Ok(true)
+    let closed = has_closed(was, live.own.cii_open);
+    Ok(cut_if(live, closed, Parting::Closed(Session::Cii)))
 }
 
-/// Hangs up the accepted sessions, in the order in which they came.
-fn hang_up_accepted<O: Outside>(live: &Live, outside: &mut O) -> Result<(), Driven>
-    ensures hangs { Hangs (shown (O.told outside.old) (O.counts outside.old))
-        (shown (O.told outside.new) (O.counts outside.new)) (hung_all live.now.peers.items) result }
-    ensures dials { (O.counts outside.new).dial_faults ≡ (O.counts outside.old).dial_faults }
-{
-    for peer in &live.peers {
-        hang_up(outside, *peer)?;
-    }
-    Ok(())
-}
-
-/// Hangs up all open sessions: the accepted ones, and then that of the television.
+/// Hangs up all open sessions: the accepted ones, in the order in which they came, and then that of the television.
 pub fn hang_up_all<O: Outside>(live: &Live, outside: &mut O) -> Result<(), Driven>
     ensures hangs { Hangs (shown (O.told outside.old) (O.counts outside.old))
         (shown (O.told outside.new) (O.counts outside.new)) (hang_ups (facts_in live.now)) result }
     ensures dials { (O.counts outside.new).dial_faults ≡ (O.counts outside.old).dial_faults }
 {
-    hang_up_accepted(live, outside)?;
+    for peer in &live.peers {
+        hang_up(outside, *peer)?;
+    }
     match live.own.cii_open {
         None => Ok(()),
         Some(television) => hang_up(outside, television),

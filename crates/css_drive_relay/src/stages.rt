@@ -1,10 +1,11 @@
 //! What a turn of a relay has to do with clocks: its readings, its dials, its own request, what lands, and the requests
 //! that it answers.
-ghost use Rattle.std.specs.Prelude.{◌≡◌, ◌≤◌, ℕ, IfOk, IfErr, None, is_some, true, false};
+ghost use Rattle.std.specs.Prelude.{◌≡◌, ◌≤◌, ℕ, IfOk, IfErr, None, is_some, not, true, false};
 ghost use Rattle.css_model.specs.History.{request_in};
 ghost use Rattle.css_drive.specs.CompanionStanding.{shown, Calls};
 ghost use Rattle.css_drive_relay.specs.Places.{Taken, Served};
 ghost use Rattle.css_drive_relay.specs.Due.{from_take};
+ghost use Rattle.css_drive_relay.specs.Standing as standing;
 ghost use Rattle.css_drive_relay.specs.Standing.{Goes, HasRead, IsAt, Keeps, Lands, Leads, goes_on_at, placed};
 
 use crate::live::Live;
@@ -79,6 +80,17 @@ fn is_request(bytes: &[u8]) -> bool
     }
 }
 
+/// Cuts the visit short for this reason, where it is to be. Tells whether the visit goes on.
+pub fn cut_if(live: &mut Live, is_cut: bool, parting: Parting) -> bool
+    ensures live { live.new ≡ standing.cut_if is_cut parting live.old }
+    ensures on { result ≡ not is_cut }
+{
+    if is_cut {
+        live.parting = Some(parting);
+    }
+    !is_cut
+}
+
 /// Takes in a datagram that was just taken, and tells whether the visit goes on. An answer that contradicts those
 /// before it ends the visit.
 fn land<O: Outside>(live: &mut Live, outside: &mut O, bytes: &[u8]) -> Result<bool, Driven>
@@ -94,11 +106,7 @@ fn land<O: Outside>(live: &mut Live, outside: &mut O, bytes: &[u8]) -> Result<bo
     }
     let contradicts = or_memory(live.relay.compare(bytes, landed.reading))?;
     or_memory(live.relay.land(bytes, landed.reading))?;
-    if contradicts {
-        live.parting = Some(Parting::Disagree);
-        return Ok(false);
-    }
-    Ok(true)
+    Ok(cut_if(live, contradicts, Parting::Disagree))
 }
 
 /// Takes a datagram, if there is one: a request is answered, and anything else lands. Tells whether the visit goes on.

@@ -4,7 +4,7 @@ use Rattle.css_outside.specs.declared.calls.Wrote.TheVariants as outcome
 use Rattle.css_companion.specs.Meanings.{is_ts}
 use Rattle.css_drive_relay.specs.Places.{Facts, lost, welcomed}
 use Rattle.css_drive_relay.proofs.Steps as steps
-use Rattle.css_drive_relay.specs.Standing.{Came, facts_in}
+use Rattle.css_drive_relay.specs.Standing.{facts_in}
 use Rattle.css_drive_relay.proofs.sessions.greet.Goals as goal
 use Rattle.css_drive_relay.proofs.sessions.greet.Goals.{in-Sent, in-Gone}
 
@@ -16,10 +16,9 @@ returns-clause-goes g c plan start h s =
     elim c.match-branch-4.branch [
       | in-Sent w ↦ rw w.live-is (steps.here (steps.stands_with welcomed pushed (steps.stands_on s (Wrote _ _)
           (outcome.Sent, ap (λ x. Wrote c.args.peer x ∷ []) text) tt
-          (λ x. (x.0, steps.all_next (Came h) _ _ x.0, x.2)) (rw w.in-Sent.is at c.in_ok-send_text.ensures.told))))
+          (rw w.in-Sent.is at c.in_ok-send_text.ensures.told))))
       | in-Gone w ↦ rw (w.live-is, w.forget.ensures.relay) (steps.here (steps.stands_with welcomed
           (w.forget.ensures.facts ∙ ap (lost c.args.peer) pushed)
           (steps.stands_on s (Gone _) (outcome.Gone, refl) (ap is_ts (steps.its_none s.runs refl))
-          (λ x. let all = steps.all_without (Came h) c.args.peer _ x.0 in (all, steps.all_next (Came h) _ _ all, x.2))
           (rw w.in-Gone.is at c.in_ok-send_text.ensures.told))))
     ]

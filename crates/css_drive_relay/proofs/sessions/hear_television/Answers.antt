@@ -1,4 +1,4 @@
-use Rattle.std.proofs.Common.{◌∙◌, sym, refl, true, false, Ok, Err}
+use Rattle.std.proofs.Common.{refl, true, false, Ok, Err}
 use Rattle.css_drive.proofs.CompanionSteps.{at_err}
 use Rattle.css_drive.specs.CompanionStanding.{shown}
 use Rattle.css_drive.specs.Stages.{At, at_of}
@@ -22,18 +22,11 @@ returns-then-told-clause-goes g c plan start h s =
     (rw c.if-told.true at (rw c.companion.ensures.value at c.in_ok-told.ensures.called)) in
     c.in_ok-publish.ensures.goes plan start x.0 x.1
 
-pub returns-then-has_closed-clause-goes : goal.returns-then-has_closed-clause-goes
-returns-then-has_closed-clause-goes g c plan start h s =
-    let heard : At = at_of (shown (g.O.Outside.told c.hear.new.outside) (g.O.Outside.counts c.hear.new.outside))
-    c.hear.new.own c.hear.new.companion in
-    companion.closes c.args.live.now s heard (companion.goes_hear c.args.live.now s heard _ refl (Ok false)
-    (rw c.if-told.false at (rw c.companion.ensures.value at c.in_ok-told.ensures.called)))
-    (sym c.has_closed.ensures ∙ c.if-has_closed.true)
-
 pub returns-clause-goes : goal.returns-clause-goes
 returns-clause-goes g c plan start h s =
     let heard : At = at_of (shown (g.O.Outside.told c.hear.new.outside) (g.O.Outside.counts c.hear.new.outside))
     c.hear.new.own c.hear.new.companion in
-    companion.goes_on c.args.live.now s heard (companion.goes_hear c.args.live.now s heard _ refl (Ok false)
-    (rw c.if-told.false at (rw c.companion.ensures.value at c.in_ok-told.ensures.called)))
-    (sym c.has_closed.ensures ∙ c.if-has_closed.false)
+    rw (c.cut_if.ensures.live, c.cut_if.ensures.on) (companion.closed_if c.args.live.now s heard
+    (companion.goes_hear c.args.live.now s heard _ refl (Ok false)
+    (rw c.if-told.false at (rw c.companion.ensures.value at c.in_ok-told.ensures.called))) c.has_closed-closed.result
+    c.has_closed-closed.ensures)

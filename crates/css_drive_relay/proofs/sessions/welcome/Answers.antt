@@ -1,7 +1,6 @@
-use Rattle.std.proofs.Common.{refl, sym, ◌∙◌, ap, true, false, ◌∷◌}
-use Rattle.css_model.specs.History.{Accepted, HungUp}
+use Rattle.std.proofs.Common.{refl, sym, ◌∙◌, ap, true, false}
+use Rattle.css_model.specs.History.{HungUp}
 use Rattle.css_drive_relay.specs.Places.{is_kept}
-use Rattle.css_drive_relay.specs.Standing.{Came}
 use Rattle.css_drive_relay.proofs.Steps as steps
 use Rattle.css_drive_relay.proofs.sessions.welcome.Goals as goal
 
@@ -21,13 +20,11 @@ returns-then-is_kept-clause-goes g c plan start h s =
 
 pub returns-else-is_kept-clause-goes : goal.returns-else-is_kept-clause-goes
 returns-else-is_kept-clause-goes g c plan start h s =
-    let came = Accepted c.in-Ok-Some.peer c.in-Ok-Some.kind in
     let opens = rw c.in-Ok-Some.field-0-is at c.in-Ok-Some.ensures.counted.peer in
     steps.made (steps.came c.args.live.now s c.in-Ok-Some.ensures.counted.faults c.in-Ok-Some.peer
     c.in-Ok-Some.kind (rw c.in-Ok-Some.field-0-is at c.in-Ok-Some.ensures.told) opens.0 opens.1 false
     (sym c.if-is_kept.false ∙ c.is_kept.ensures ∙ ap (is_kept _) (c.len.ensures ∙ c.args.live.now.peers.ok.0)))
-    (HungUp _) refl tt (λ x. (x.0, steps.all_next (Came (came ∷ h)) _ _ x.0, x.2)) _ _ c.hang_up.result
-    c.hang_up.ensures.told
+    (HungUp _) refl tt _ _ c.hang_up.result c.hang_up.ensures.told
 
 pub returns-in-Err-clause-goes : goal.returns-in-Err-clause-goes
 returns-in-Err-clause-goes g c plan start h s =

@@ -40,5 +40,5 @@ returns-in-Ok-answer-clause-goes g c plan some start h s =
     (Sent c.args.peer c.in-Ok-answer.answer) refl
     (answer_is_no_request (own_of c.read-in-Ok.new.live.relay.companion) before clocked.reading c.in-Ok.ticket
     c.in-Ok-answer.answer (sym (c.in-Ok-answer.ensures.value before
-    (steps.knows_read read s1.knows).companion.stands))) (λ x. x) _ _ c.send_datagram.result
+    (steps.knows_read read s1.knows).companion.stands))) _ _ c.send_datagram.result
     c.send_datagram.ensures.told
