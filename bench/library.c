@@ -80,6 +80,12 @@ static uint32_t when(css_companion *c) { return css_companion_when(c, 2000000, &
 static uint32_t agreed(css_companion *c) { return css_companion_agreed(c, reading + 1000000, &span); }
 static uint32_t next(css_companion *c) { return css_companion_next(c, 10000000, 2000000, &last, &look); }
 static uint32_t until(css_companion *c) { return css_companion_until(c, 10000000, &last); }
+/* A response to the last request came. */
+static uint32_t exchanged(css_companion *c) {
+    static int is_done;
+    return is_done++ ? 0 : exchange(c);
+}
+static uint32_t due(css_companion *c) { return exchanged(c) | next(c); }
 static uint32_t snapshot(css_companion *c) { return css_companion_snapshot(c, &copy); }
 static uint32_t copied(css_companion *c) { return c ? css_snapshot_position(&copy, reading + 1000000, &position) : 1; }
 static uint32_t slept(css_companion *c) { return css_companion_slept(c); }
@@ -99,7 +105,7 @@ static const struct {
     {"when", when},         {"until", until},       {"snapshot", snapshot}, {"copied", copied},
     {"slept", slept},       {"setup", setup},       {"timeline", timeline}, {"ts_closed", ts_closed},
     {"control", hear_ts},   {"spaced", hear_spaced}, {"cii", hear_cii},   {"agreed", agreed},
-    {"next", next},
+    {"next", next},         {"exchanged", exchanged}, {"due", due},
 };
 
 int main(int argc, char **argv) {

@@ -17,9 +17,9 @@ HERE = Path(__file__).resolve().parent
 CALLS = {"ask": "answered", "exchange": "ask", "late": "nothing", "wall": "nothing", "position": "nothing",
          "lead": "nothing", "when": "nothing", "until": "nothing", "snapshot": "nothing", "copied": "nothing",
          "slept": "nothing", "timeline": "nothing", "setup": "nothing", "ts_closed": "nothing", "control": "nothing",
-         "spaced": "nothing", "cii": "nothing", "agreed": "nothing", "next": "nothing"}
+         "spaced": "nothing", "cii": "nothing", "agreed": "nothing", "next": "nothing", "due": "exchanged"}
 NAMES = {"exchange": "land", "late": "land, for the oldest of 64 requests", "copied": "snapshot position",
-         "control": "control, as css writes it", "spaced": "control, with spaces"}
+         "control": "control, as css writes it", "spaced": "control, with spaces", "due": "next, after a response"}
 COUNT = 200
 
 
@@ -41,7 +41,8 @@ def main(words):
             name = NAMES.get(call, call)
             print(f"{name}: {(cost - less) // COUNT} instructions, {taken / COUNT:g} times memory", flush=True)
         sized = subprocess.run(["size", "-t", library / "lib" / "libcss_companion.a"], capture_output=True, text=True)
-        print(f"code: {int(sized.stdout.splitlines()[-1].split()[0]) // 1024} KB")
+        archive = (library / "lib" / "libcss_companion.a").stat().st_size
+        print(f"code: {int(sized.stdout.splitlines()[-1].split()[0]) // 1024} KB, the archive {archive} bytes")
     return 0
 
 

@@ -36,7 +36,7 @@ import live_server
 from checks import TOP, Checks, ports
 
 sys.path.insert(0, str(TOP / "tools"))
-from package import pack_library
+from package import pack_library, pack_plain
 
 live_server.OFFSET = 0
 
@@ -223,16 +223,22 @@ class Suite:
         self.check("it takes less than 1 % of a processor", used < seconds * 10, used)
 
     def packaged(self):
-        """The library of the Debian package, whose symbols of debugging are taken off."""
-        if not all(self.has(it, "the library's Debian package") for it in ("dpkg-deb", "strip")):
+        """The library of the Debian packages, and its archive, whose symbols of debugging are taken off."""
+        if not all(self.has(it, "the library's Debian packages") for it in ("dpkg-deb", "strip")):
             return
-        pack_library(self.room, self.room / "tree", self.library)
+        pack_library(self.room, self.room / "trees", self.library)
+        pack_plain(self.room, self.room / "trees")
         place, program = self.room / "unpacked", self.room / "by_package"
-        subprocess.run(["dpkg-deb", "-x", next(self.room.glob("*.deb")), place], check=True)
-        archive = next(place.rglob("libcss_companion.a"))
-        command = ["gcc", *WARNINGS, f"-I{place}/usr/include", "-o", program, TESTS / "exchange.c", archive]
-        subprocess.run(command, check=True)
-        self.run("each call and each misuse, by the Debian package", [program])
+        for package in self.room.glob("*.deb"):
+            subprocess.run(["dpkg-deb", "-x", package, place], check=True)
+        folder = next(place.rglob("libcss_companion.a")).parent
+        for name, kind in (("-lcss_companion", "shared object"), ("-l:libcss_companion.a", "archive")):
+            command = ["gcc", *WARNINGS, f"-I{place}/usr/include", "-o", program, TESTS / "exchange.c", f"-L{folder}"]
+            subprocess.run([*command, name], check=True)
+            paths = {**os.environ, "LD_LIBRARY_PATH": str(folder)}
+            self.run(f"each call and each misuse, by the Debian packages' {kind}", [program], env=paths)
+        paths["PYTHONPATH"] = str(place / "usr/lib/python3/dist-packages")
+        self.run("the Debian package for Python", [sys.executable, "-c", "import css_companion"], env=paths)
 
     def by_shared(self, compiler, library):
         """A program that goes by the shared object."""

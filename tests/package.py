@@ -3,7 +3,7 @@
 
     tests/package.py [PROGRAM]      the program that ./css builds, where none is given
 
-The library of the second package is a small one that gcc makes; tests/library.py links with the package of the real
+The library of the other packages is a small one that gcc makes; tests/library.py links with the package of the real
 one. A machine that lacks dpkg-deb, gcc, lintian or the right to change its root is told what was skipped.
 """
 import os
@@ -19,7 +19,7 @@ from checks import TOP, Checks, css, without_kit
 sys.path.insert(0, str(TOP / "tools"))
 import library
 
-PACKAGES = ["css", "libcss-companion-dev"]
+PACKAGES = ["css", "libcss-companion-dev", "libcss-companion1", "node-css-lines", "python3-css-companion"]
 SCHEDULE = TOP / "examples" / "evening.schedule"
 STANZA = """Package: {0}
 Status: install ok installed
@@ -79,19 +79,21 @@ def small_library(folder):
         (folder / name).mkdir(parents=True)
     source, made = folder / "small.c", folder / "small.o"
     source.write_text("int css_small(void) { return 42; }\n")
-    subprocess.run(["gcc", "-g", "-c", source, "-o", made], check=True)
+    subprocess.run(["gcc", "-g", "-fPIC", "-c", source, "-o", made], check=True)
     subprocess.run(["ar", "rcs", folder / "lib" / "libcss_companion.a", made], check=True)
+    shared = folder / "lib" / library.SONAME
+    subprocess.run(["gcc", "-shared", f"-Wl,-soname,{library.SONAME}", made, "-o", shared], check=True)
     shutil.copy(TOP / "crates" / library.NAME / "include" / "css_companion.h", folder / "include")
     library.package(folder)
 
 
 def make(room, program):
-    """Both packages."""
+    """All packages."""
     small_library(room / "library")
     words = ["--deb", room / "debs", "--program", program, "--library", room / "library"]
     ran = run([sys.executable, TOP / "tools" / "package.py", *words])
     made = sorted((room / "debs").glob("*.deb"))
-    check("both packages are made", [it.name.partition("_")[0] for it in made] == PACKAGES, ran.stderr.strip())
+    check("all packages are made", [it.name.partition("_")[0] for it in made] == PACKAGES, ran.stderr.strip())
     return made
 
 
@@ -114,23 +116,37 @@ def clean_root(root, program):
         (lists / name).mkdir(parents=True)
     architecture = run(["dpkg", "--print-architecture"]).stdout.strip()
     version = run(["dpkg-query", "-W", "-f", "${Version}", "libc6"]).stdout or "9:0"
-    here = ("libc6", "libc6-dev")
-    (lists / "status").write_text("".join(STANZA.format(it, architecture, version) for it in here))
+    here = {"libc6": version, "libc6-dev": version, "libgcc-s1": version, "python3": "9:0"}
+    (lists / "status").write_text("".join(STANZA.format(it, architecture, here[it]) for it in here))
     for name in here:
         (lists / "info" / f"{name}.list").write_text("")
 
 
 def usable(room, root):
-    """The library of an installed package is linked by what its pkg-config file says."""
+    """The library of an installed package is linked by what its pkg-config file says, shared and as an archive."""
     program, source = room / "linked", room / "linked.c"
     source.write_text('#include "css_companion.h"\nint css_small(void);\nint main(void) { return css_small(); }\n')
-    told = next(root.glob("usr/lib/**/css_companion.pc")).read_text().replace("/usr", f"{root}/usr")
+    file = next(root.glob("usr/lib/**/css_companion.pc"))
+    told = file.read_text().replace("/usr", f"{root}/usr")
     fields = dict(line.split(": ", 1) for line in told.splitlines() if ": " in line)
     prefix = next(line.partition("=")[2] for line in told.splitlines() if line.startswith("prefix="))
     flags = f"{fields['Cflags']} {source} -o {program} {fields['Libs']}".replace("${prefix}", prefix)
     ran = run(["gcc", *flags.split()])
-    check("a program is linked by the pkg-config file", ran.returncode == 0 and run([program]).returncode == 42,
-          ran.stderr.strip())
+    found = run([program], env={"LD_LIBRARY_PATH": str(file.parents[1])})
+    check("a program is linked by the pkg-config file, with the shared object", ran.returncode == 0
+          and found.returncode == 42 and library.SONAME in run([program], env={}).stderr, ran.stderr.strip())
+    ran = run(["gcc", *flags.replace("-lcss_companion", "-l:libcss_companion.a").split()])
+    check("and with the archive", ran.returncode == 0 and run([program]).returncode == 42, ran.stderr.strip())
+
+
+def imported(root):
+    """The module for JavaScript is imported where it is installed; tests/library.py has Python's, with its library."""
+    if not shutil.which("node"):
+        check.skip("the installed module for JavaScript", "there is no node")
+        return
+    told = f"import {{ Lines }} from '{root}/usr/share/nodejs/css-lines/css-lines.js'; new Lines()"
+    ran = run(["node", "--input-type=module", "-e", told])
+    check("the installed module for JavaScript", ran.returncode == 0, ran.stderr.strip()[-300:])
 
 
 def in_clean_root(room, debs, program):
@@ -143,7 +159,7 @@ def in_clean_root(room, debs, program):
         return
     before, dpkg = below(root), [*own, "dpkg", f"--root={root}", f"--log={room / 'dpkg.log'}"]
     ran = run([*dpkg, "-i", *debs], env=env)
-    check("dpkg installs both in a clean root", ran.returncode == 0, ran.stderr.strip())
+    check("dpkg installs all in a clean root", ran.returncode == 0, ran.stderr.strip())
     check("the program replays there", replayed([*own, "chroot", root, "/usr/bin/css"]) == replayed([program]))
     helped = run([*own, "chroot", root, "/usr/bin/css", "--help"])
     check("its --help is a hint there", helped.returncode == 1 and "css: hint: the commands" in helped.stderr)
@@ -151,9 +167,10 @@ def in_clean_root(room, debs, program):
         helped = run([tool, "--help"])
         check(f"{tool.name} --help", helped.returncode == 0 and helped.stdout, helped.stderr.strip()[-99:])
     usable(room, root)
+    imported(root)
     ran = run([*dpkg, "--purge", *PACKAGES], env=env)
     left = [path for path in below(root) if path not in before and not path.startswith("var/")]
-    check("dpkg takes both away, and nothing is left", ran.returncode == 0 and not left, (ran.stderr.strip(), left))
+    check("dpkg takes all away, and nothing is left", ran.returncode == 0 and not left, (ran.stderr.strip(), left))
 
 
 def main(words):

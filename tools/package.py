@@ -1,9 +1,11 @@
 #!/usr/bin/env python3
-"""Puts the proved program and what belongs to it below a folder, or makes Debian packages of it and of the library.
+"""Puts the proved program and what belongs to it below a folder, or makes Debian packages of it, of the library and of
+what goes by these in other languages.
 
     tools/package.py --install PREFIX      below PREFIX, or below $DESTDIR/PREFIX where DESTDIR is set
     tools/package.py --uninstall PREFIX    takes away what --install put there, and the folders that it made
-    tools/package.py --deb DIR             css_VERSION_ARCH.deb and libcss-companion-dev_VERSION_ARCH.deb in DIR
+    tools/package.py --deb DIR             puts css, libcss-companion1, libcss-companion-dev, python3-css-companion and
+                                           node-css-lines into DIR
 
     --program FILE     is the program, in the place of the one that ./css builds
     --library FOLDER   has the library, as tools/library.py made it; else it is made now
@@ -55,9 +57,24 @@ ABOUT_PROGRAM = """companion screen synchronisation of DVB: television, companio
  It speaks the protocols of ETSI TS 103 286-2 for the wall clock, content
  identification and timelines. A companion reports where the television stands
  on a timeline, as an interval of ticks that is proved to contain it."""
-ABOUT_LIBRARY = """follow a television of ETSI TS 103 286-2 from an application
- The companion of css as a static library for C, with its header. It has no
- sockets and no clock of its own: the application hands it what comes."""
+ABOUT_SHARED = """follow a television of ETSI TS 103 286-2 from an application
+ The companion of css as a shared object. It has no sockets and no clock of its
+ own: the application hands it what comes."""
+ABOUT_LIBRARY = """follow a television of ETSI TS 103 286-2: files for development
+ The header of the companion of css, what pkg-config tells of it, its archive,
+ and the name by which the shared object is linked."""
+# The package of the shared object.
+SHARED = "libcss-companion1"
+# Packages of what needs no build: where it is, where it goes, what it is, and what goes with it.
+PLAIN = {
+    "python3-css-companion": ("python/css_companion", "usr/lib/python3/dist-packages/css_companion", """\
+follow a television of ETSI TS 103 286-2 from Python
+ The calls of the library, and an asynchronous iterator of positions.""", {
+        "Section": "python", "Depends": f"python3 (>= 3.10), {SHARED}", "Recommends": "python3-websockets"}),
+    "node-css-lines": ("javascript/css-lines", "usr/share/nodejs/css-lines", """\
+positions on a television's timeline, by the lines of css watch
+ A module for Node and browsers that depends on nothing.""", {"Section": "javascript", "Suggests": "nodejs, css"}),
+}
 
 
 def version():
@@ -156,9 +173,9 @@ def pack(folder, tree, package, about, **fields):
     put(documents / "copyright", COPYRIGHT.format(**words).encode(), 0o644)
     put(documents / "changelog.gz", gzip.compress(CHANGES.format(**words).encode(), mtime=0), 0o644)
     folder.mkdir(parents=True, exist_ok=True)
-    files = sorted(path for path in tree.rglob("*") if path.is_file() and not path.is_symlink())
-    architecture = told(["dpkg", "--print-architecture"])
-    control = {"Package": package, "Version": version(), "Architecture": architecture, "Maintainer": maintainer(),
+    files = sorted(path for path in (tree / "usr").rglob("*") if path.is_file() and not path.is_symlink())
+    architecture = fields.setdefault("Architecture", told(["dpkg", "--print-architecture"]))
+    control = {"Package": package, "Version": version(), "Maintainer": maintainer(),
                "Installed-Size": str(sum(path.stat().st_size for path in files) // 1024 + 1), "Priority": "optional",
                **fields, "Description": about}
     text = "".join(f"{name}: {value}\n" for name, value in control.items())
@@ -185,19 +202,34 @@ def pack_program(folder, tree, program):
     pack(folder, tree, "css", ABOUT_PROGRAM, Section="net", Depends=libc([program]), Recommends="python3")
 
 
-def pack_library(folder, tree, made):
-    """Makes the package of the library out of the folder that tools/library.py made."""
+def pack_library(folder, room, made):
+    """Makes the packages of the library out of the folder that tools/library.py made: of the shared object, and of what
+    an application is built with."""
     triplet = told(["dpkg-architecture", "-qDEB_HOST_MULTIARCH"]) if shutil.which("dpkg-architecture") else \
         told(["gcc", "-print-multiarch"])
-    lib, archive = tree / "usr/lib" / triplet, "libcss_companion.a"
-    put(lib / archive, (made / "lib" / archive).read_bytes(), 0o644)
-    told(["strip", "--strip-debug", "--remove-section=.comment", "--remove-section=.note", lib / archive])
+    lib, run, dev, archive = Path("usr/lib") / triplet, room / "run", room / "dev", "libcss_companion.a"
+    put(run / lib / library.SONAME, (made / "lib" / library.SONAME).read_bytes(), 0o644)
+    put(run / "DEBIAN/shlibs", f"libcss_companion 1 {SHARED}\n".encode(), 0o644)
+    put(run / "DEBIAN/triggers", b"activate-noawait ldconfig\n", 0o644)
+    pack(folder, run, SHARED, ABOUT_SHARED, Section="libs", Depends="libc6, libgcc-s1")
+    put(dev / lib / archive, (made / "lib" / archive).read_bytes(), 0o644)
+    told(["strip", "--strip-debug", "--remove-section=.comment", "--remove-section=.note", dev / lib / archive])
+    (dev / lib / "libcss_companion.so").symlink_to(library.SONAME)
     header = made / "include" / "css_companion.h"
-    put(tree / "usr/include" / header.name, header.read_bytes(), 0o644)
+    put(dev / "usr/include" / header.name, header.read_bytes(), 0o644)
     told_of = (made / "lib/pkgconfig/css_companion.pc").read_text()
     told_of = re.sub("^prefix=.*", "prefix=/usr", told_of, flags=re.M).replace("}/lib", f"}}/lib/{triplet}")
-    put(lib / "pkgconfig" / "css_companion.pc", told_of.encode(), 0o644)
-    pack(folder, tree, "libcss-companion-dev", ABOUT_LIBRARY, Section="libdevel", Depends="libc6-dev")
+    put(dev / lib / "pkgconfig" / "css_companion.pc", told_of.encode(), 0o644)
+    pack(folder, dev, "libcss-companion-dev", ABOUT_LIBRARY, Section="libdevel",
+         Depends=f"libc6-dev, {SHARED} (= {version()})")
+
+
+def pack_plain(folder, room):
+    """Makes the packages of what needs no build."""
+    for package, (source, place, about, fields) in PLAIN.items():
+        for path in sorted(it for it in (TOP / source).iterdir() if it.is_file()):
+            put(room / package / place / path.name, path.read_bytes(), 0o644)
+        pack(folder, room / package, package, about, Architecture="all", **fields)
 
 
 def make_packages(folder, program, made):
@@ -207,7 +239,8 @@ def make_packages(folder, program, made):
             made = room / "library"
             library.main([str(made)])
         pack_program(folder, room / "css", program)
-        pack_library(folder, room / "dev", made)
+        pack_library(folder, room, made)
+        pack_plain(folder, room)
 
 
 def main(words):

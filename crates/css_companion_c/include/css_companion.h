@@ -27,8 +27,8 @@
  * control, presentation, report and fault, and by land for the first response of a declared error and for one that
  * promises a follow-up. All others take none, and never answer CSS_MEMORY.
  *
- * It was tried on Linux with glibc: on x86-64 from C11, C++17, Rust and Python, and on ARM of 64 bits from C11. All that
- * it needs of a system is memcpy, memmove, memset, malloc, realloc and free of the C library, and __udivti3 of the
+ * It was tried on Linux with glibc: on x86-64 from C11, C++17, Rust and Python, and on ARM of 64 bits from C11. All
+ * that it needs of a system is memcpy, memmove, memset, malloc, realloc and free of the C library, and __udivti3 of the
  * compiler. So on Android, or over another C library, link the archive with the compiler of that system. The shared
  * object asks for libc.so.6 and libgcc_s.so.1 by name.
  */
@@ -47,10 +47,10 @@ extern "C" {
 #define CSS_ASSERT(is, words) _Static_assert(is, words)
 #endif
 
-/* The version of this page. css_companion_version() tells that of the library: see at the start that it isn't below this
- * one. Within a number nothing of this page changes. A higher one has further calls and codes, and leaves all others as
- * they were; a code that you don't know says by its group what to do. Where that can't be so, the shared object has
- * another number in its name. */
+/* The version of this page. css_companion_version() tells that of the library: see at the start that it isn't below
+ * this one. Within a number nothing of this page changes. A higher one has further calls and codes, and leaves all
+ * others as they were; a code that you don't know says by its group what to do. Where that can't be so, the shared
+ * object has another number in its name. */
 #define CSS_VERSION 2
 
 /* A companion, or none. 24 bytes in your memory; what it points to is the library's. */
@@ -222,7 +222,7 @@ uint32_t css_companion_lead(css_companion *c, uint64_t reading, int64_t tick, cs
 uint32_t css_companion_when(css_companion *c, int64_t tick, css_readings *readings);
 /* Until when the wall clock is known well enough: at each reading up to *reading `wall` is at most `width` ns wide. Ask
  * the television again by then. A nanosecond later each kept response alone is wider than `width` - 1 ns, before its
- * ends are rounded. CSS_NEVER: it is so wide already. It takes some microseconds. */
+ * ends are rounded. CSS_NEVER: it is so wide already. */
 uint32_t css_companion_until(css_companion *c, uint64_t width, uint64_t *reading);
 /* When to do something next. *ask: the reading from which a request is due. That is at once where none was sent since
  * the start or the last sleep; a second after the last one where no response to it was accepted; and else the last
