@@ -43,7 +43,7 @@ class Television:
 
     def wall(self, reading):
         """From where to where its wall clock is, in nanoseconds, at a reading not below that of the report."""
-        low, high = map(int, self.report["wall"])
+        low, high = map(int, self.report.get("agreed") or self.report["wall"])
         error, past, blur = self.report["error"], reading - int(self.report["reading"]), 2 * LOCAL_PRECISION + 1
         low += (F - error) * (past - blur) // (F + LOCAL_ERROR) - 1
         high -= (F + error) * -(past + blur) // (F - LOCAL_ERROR) - 1

@@ -110,7 +110,7 @@ def unreadable():
     bad = ["{", "null", "[1", '{"event":"state","state":{"timelines":[5]}}', '{"event":"state","state":5}',
            '{"event":"control","control":{"contentTime":"x","wallClockTime":"1","timelineSpeedMultiplier":1}}',
            '{"event":"control","control":{"contentTime":"1","wallClockTime":"1","timelineSpeedMultiplier":0.5}}',
-           json.dumps({**report, "wall": ["2", "1"]}), json.dumps({**report, "wall": None}),
+           json.dumps({**report, "agreed": ["2", "1"]}), json.dumps({**report, "agreed": None, "wall": None}),
            json.dumps({**report, "error": 1.5}), json.dumps({**report, "reading": "x"}),
            json.dumps({"event": "visit", "number": 1}), json.dumps({"event": "answer", "landed": {}})]
     bad.append('{"event":"state","state":{"timelines":[{"timelineSelector":"%s","timelineProperties":'

@@ -26,7 +26,8 @@ def due(lines):
 
 def position(report, control, rate, reading):
     """The span of the wall clock and the ticks, as the formula carries them on."""
-    wall = carried([int(end) for end in report["wall"]], report["error"], reading - int(report["reading"]))
+    told = [int(end) for end in report.get("agreed", report["wall"])]
+    wall = carried(told, report["error"], reading - int(report["reading"]))
     return [*wall, *sorted(tick_at(end, control, rate) for end in wall)]
 
 

@@ -39,6 +39,21 @@ def disagree(answers, reading):
     return bool(spans) and max(low for low, _ in spans) > min(high for _, high in spans)
 
 
+def exact(answer, reading):
+    """Both ends of that span before they are rounded, each in a unit of its own."""
+    t1, t2, t3, t4 = answer
+    return ((F + LOCAL_ERROR) * (t3 - PRECISION_NS - 1) + (F - ERROR) * (reading - t4 - 2 * LOCAL_PRECISION - 1),
+            (F - LOCAL_ERROR) * (t2 + PRECISION_NS + 1) + (F + ERROR) * (reading - t1 + 2 * LOCAL_PRECISION + 1))
+
+
+def between(answers, reading):
+    """Two answers that contradict each other, as a line tells them."""
+    above = min(answers, key=lambda answer: (-exact(answer, reading)[0], answer[3]))
+    below = min(answers, key=lambda answer: (exact(answer, reading)[1], answer[3]))
+    return [{"error": ERROR, "landed": str(t4), "originate": str(t1), "precision": str(PRECISION_NS),
+             "receive": str(t2), "transmit": str(t3)} for t1, t2, t3, t4 in (above, below)]
+
+
 def carried(wall, error, past):
     """The span of the wall clock so many ns after the reading of a report."""
     low = (F - error) * (past - 2 * LOCAL_PRECISION - 1) // (F + LOCAL_ERROR)
@@ -100,7 +115,8 @@ class Evening:
         self.land()
         self.hear()
         if self.why:
-            self.say("end", number=self.visit, why=self.why)
+            two = {"between": between(self.answers, self.answers[-1][3])} if self.why == "disagree" else {}
+            self.say("end", number=self.visit, why=self.why, **two)
             self.begin_visit()
 
     def dial(self, service, wanted):
@@ -164,11 +180,14 @@ class Evening:
             self.say("report", cause=cause, detail=detail, **members)
             return
         reading = BEGIN + self.time
-        wall = min((span(answer, reading) for answer in self.answers), key=lambda ends: ends[1] - ends[0])
+        spans = [span(answer, reading) for answer in self.answers]
+        wall = min(spans, key=lambda ends: ends[1] - ends[0])
+        agreed = max(low for low, _ in spans), min(high for _, high in spans)
         rate = rate_in(self.state["timelines"])
         ticks = sorted(tick_at(end, self.control, rate) for end in wall)
-        self.say("report", error=ERROR, rate=rate, speed=self.control["timelineSpeedMultiplier"],
-                 ticks=[str(tick) for tick in ticks], wall=[str(end) for end in wall], **members)
+        self.say("report", agreed=[str(end) for end in agreed], error=ERROR, rate=rate,
+                 speed=self.control["timelineSpeedMultiplier"], ticks=[str(tick) for tick in ticks],
+                 wall=[str(end) for end in wall], **members)
 
     def cause(self):
         """The first cause that there is no position, with how far the visit came."""

@@ -6,7 +6,7 @@ import pathlib
 import re
 import sys
 
-from page_tv import (ERROR, F, LOCAL_ERROR, LOCAL_PRECISION, PRECISION_NS, SELECTOR, disagree, rate_in, span,
+from page_tv import (ERROR, F, LOCAL_ERROR, LOCAL_PRECISION, PRECISION_NS, SELECTOR, between, disagree, rate_in, span,
                      tick_at)
 
 sys.path.append(str(pathlib.Path(__file__).resolve().parent.parent / "examples"))
@@ -20,7 +20,7 @@ REFUSED = "Undecodable (Length|Version|MessageType|Precision|Error|Nanoseconds)|
 UNREAD = "NotJson|NotObject|Fractional|(Field|Range) (contentTime|timelineSpeedMultiplier|wallClockTime)"
 CAUSE = f"NoAnswer|NoTimestamp|SessionClosed|Unreadable ({UNREAD})|Unavailable|NoRate"
 CII_TEXT = "CII text [1-9][0-9]*: (not json|not object|field [a-zA-Z]+)"
-WHY = "closed (CII|TS)|(moved|bad) (wc|ts)Url|disagree"
+WHY = "closed (CII|TS)|(moved|bad) (wc|ts)Url"
 UNREACHED = "refused|no such host|no answer|HTTP status [0-9]+|no WebSocket|no permission|no room|other"
 NO_ANSWER = f"nothing was asked|no response to [1-9][0-9]* requests|the last datagram was refused: ({REFUSED})"
 
@@ -34,9 +34,11 @@ CHECKS = {
     "controls": "each control timestamp is one that the television told",
     "answers": "each answer is one that the television sent, with the width of its span",
     "disagree": "a visit whose answers disagree ends, and no other ends so",
+    "between": "it names two answers of the visit, of which the one lies wholly above the other",
     "ends": "each end has a reason, by the lines before it",
     "causes": "each cause and detail is the first that holds",
     "intervals": "each interval comes from the narrowest answer and the last control timestamp",
+    "agreed": "what all answers allow is told with it",
     "truth": "each interval contains the truth",
     "carried": "each interval contains the truth when examples/carry.py carries it on",
 }
@@ -85,6 +87,8 @@ TOLD = dict.fromkeys(STATE, text_or_null) | {
     "timelines": lambda value: value is None or isinstance(value, list) and all(map(TIMELINES, value))}
 CONTROL = members(contentTime=signed, timelineSpeedMultiplier=whole(-64, 64), wallClockTime=digits)
 NO_CONTROL = dict.fromkeys(("contentTime", "timelineSpeedMultiplier", "wallClockTime"))
+NUMBERED = {"originate": digits, "receive": digits, "transmit": digits, "landed": digits, "precision": digits}
+EXCHANGE = members(error=whole(0, 25_600_000), **NUMBERED)
 FORMS = {
     "visit": [{"number": COUNT, "reading": digits}],
     "dial": [{"outcome": words("open"), "service": words("|".join(SERVICES))},
@@ -96,11 +100,13 @@ FORMS = {
                 "receive": digits, "transmit": digits, "type": whole(1, 3), "width": digits}],
     "refused": [{"bytes": words("([0-9a-f]{2}){0,64}"), "fault": words(REFUSED), "landed": digits}],
     "slept": [{"reading": digits}],
-    "report": [{"error": whole(0, 25_600_000), "number": COUNT, "rate": UNITS, "reading": digits,
-                "speed": whole(-64, 64), "ticks": both(signed), "wall": both(signed)},
+    "report": [{"agreed": both(signed), "error": whole(0, 25_600_000), "number": COUNT, "rate": UNITS,
+                "reading": digits, "speed": whole(-64, 64), "ticks": both(signed), "wall": both(signed)},
                {"cause": words(CAUSE), "detail": lambda value: isinstance(value, str), "number": COUNT,
                 "reading": digits}],
-    "end": [{"number": COUNT, "why": words(WHY)}, {"number": COUNT, "text": front, "why": words(CII_TEXT)}],
+    "end": [{"number": COUNT, "why": words(WHY)}, {"number": COUNT, "text": front, "why": words(CII_TEXT)},
+            {"between": lambda value: len(value) == 2 and all(map(EXCHANGE, value)), "number": COUNT,
+             "why": words("disagree")}],
 }
 
 
@@ -132,6 +138,10 @@ def sent(text):
     """The front of a text as a television sends it."""
     data = text if isinstance(text, bytes) else json.dumps(text).encode()
     return data.decode(errors="replace").encode()[:1000].decode(errors="ignore")
+
+
+def times_of(exchange):
+    return tuple(int(exchange[name]) for name in ("originate", "receive", "transmit", "landed"))
 
 
 class Visit:
@@ -256,7 +266,7 @@ class Story:
         low, high = span(visit.answers[-1], landed)
         self.expect("answers", (kind, t1, t2, t3) in self.tv.sent and said["error"] == ERROR
                     and said["precision"] == str(PRECISION_NS) and said["width"] == str(high - low), said)
-        visit.disagrees, visit.refused = disagree(visit.answers, landed), None
+        visit.disagrees, visit.refused, visit.landed = disagree(visit.answers, landed), None, landed
 
     def on_refused(self, visit, said):
         visit.refused = said["fault"]
@@ -276,6 +286,11 @@ class Story:
         if text and why.endswith("not object"):
             self.expect("texts", said["text"] == "[]", said)
         self.expect("disagree", visit.disagrees == (why == "disagree"), said)
+        if why == "disagree":
+            above, below = (times_of(one) for one in said["between"])
+            wanted = [times_of(one) for one in between(visit.answers, visit.landed)]
+            apart = span(above, visit.landed)[0] > span(below, visit.landed)[1]
+            self.expect("between", [above, below] == wanted and apart, said)
 
     def on_report(self, visit, said):
         self.number += 1
@@ -306,7 +321,9 @@ class Story:
 
     def known(self, visit, said, reading):
         control, rate, wall = visit.control, visit.rate(), [int(end) for end in said["wall"]]
-        ticks = [int(tick) for tick in said["ticks"]]
+        ticks, agreed = [int(tick) for tick in said["ticks"]], [int(end) for end in said["agreed"]]
+        spans = [span(answer, reading) for answer in visit.answers]
+        self.expect("agreed", agreed == [max(low for low, _ in spans), min(high for _, high in spans)], said)
         best = min(visit.answers, key=lambda answer: scaled_width(answer, reading))
         self.expect("intervals", tuple(wall) == span(best, reading) and said["error"] == ERROR and said["rate"] == rate
                     and said["speed"] == control["timelineSpeedMultiplier"]
@@ -314,7 +331,8 @@ class Story:
         if self.is_exempt(visit, reading):
             return
         true = self.tv.wall(reading)
-        self.expect("truth", wall[0] <= true <= wall[1] and ticks[0] <= tick_at(true, control, rate) <= ticks[1]
+        self.expect("truth", wall[0] <= agreed[0] <= true <= agreed[1] <= wall[1]
+                    and ticks[0] <= tick_at(true, control, rate) <= ticks[1]
                     and control in self.tv.said(reading - LAG, reading), said)
 
     def carry_on(self, visit, said):

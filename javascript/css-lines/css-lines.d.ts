@@ -17,7 +17,8 @@ export type Control =
   | { content: bigint; wall: bigint; speed: bigint; fault?: undefined }
   | { content: null; fault?: string };
 
-/** A report with ticks: the two ends of the wall clock at its reading, and the error that its answer declared. */
+/** A report with ticks: the two ends of the wall clock at its reading, and the error that its answer declared. The ends
+ * are those that all answers allow together, where the line has them in `agreed`, else those of the narrowest answer. */
 export interface Report {
   reading: bigint;
   wall: [bigint, bigint];

@@ -23,7 +23,7 @@ function controlOf({ contentTime, wallClockTime, timelineSpeedMultiplier }) {
 }
 
 function reportOf(line) {
-  const [low, high] = line.wall.map(BigInt);
+  const [low, high] = (line.agreed ?? line.wall).map(BigInt);
   if (low > high) throw new RangeError("no span");
   return { reading: BigInt(line.reading), wall: [low, high], error: BigInt(line.error) };
 }

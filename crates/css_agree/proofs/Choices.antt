@@ -1,6 +1,6 @@
 -- What holds of the better of two answers at each end, and of the best of all.
-use Rattle.std.proofs.Common.{◌≡◌, ℕ, arith, refl, subst, Bool, true, false, List, [], ◌∷◌}
-use Rattle.std.specs.Prelude.{ℤ, ◌≤ℤ◌, int_lt, if◌then◌else◌, Option, Some, None, All, reverse}
+use Rattle.std.proofs.Common.{◌≡◌, ℕ, arith, refl, sym, ap₂, subst, Bool, true, false, List, [], ◌∷◌}
+use Rattle.std.specs.Prelude.{ℤ, ◌≤ℤ◌, int_lt, nat_lt, if◌then◌else◌, Option, Some, None, All, reverse}
 use Rattle.std.proofs.lemmas.Int.{ints}
 use Rattle.std.proofs.lemmas.List.{reverse-append, reverse-reverse}
 use Rattle.std.proofs.lemmas.List.Elements.{All-cons, All-head, All-tail, All-nil, All-push, All-weaker}
@@ -8,6 +8,7 @@ use Rattle.css_model.specs.WallClock.{Answer, Local, lower, upper}
 use Rattle.css_agree.specs.declared.best.Best.{Best}
 use Rattle.css_agree.specs.Bests.{higher_low, lesser_high, better_of, better_than, best_of}
 use Rattle.css_agree.specs.Keeping.{OfBoth}
+use Rattle.css_agree.proofs.Alike.{ends_move_alike}
 
 -- where the test says less, it is
 less_if : (a b : ℤ) → int_lt a b ≡ true → a ≤ℤ b
@@ -17,46 +18,82 @@ less_if a b e = omega (arith, ints, e)
 no_less_if : (a b : ℤ) → int_lt a b ≡ false → b ≤ℤ a
 no_less_if a b e = omega (arith, ints, e)
 
--- what holds of both values holds of the one that a test chooses
-chosen : {A : Type 0} (P : A → Type 0) (t : Bool) (x y : A) → P x → P y → P (if t then y else x)
-chosen P true x y at_x at_y = at_y
-chosen P false x y at_x at_y = at_x
+-- what holds of both values holds of the one that tests choose
+chosen : {A : Type 0} (P : A → Type 0) (t u v : Bool) (x y : A) → P x → P y
+    → P (if t then y else if u then x else if v then y else x)
+chosen P true u v x y at_x at_y = at_y
+chosen P false true v x y at_x at_y = at_x
+chosen P false false true x y at_x at_y = at_y
+chosen P false false false x y at_x at_y = at_x
+
+-- tests of ends whose order is the same say the same
+same_test : (a b c d : ℤ) → (a ≤ℤ b → c ≤ℤ d) → (c ≤ℤ d → a ≤ℤ b) → int_lt b a ≡ int_lt d c
+same_test a b c d go back = by (int_lt b a) refl (int_lt d c) refl
+  where
+    by : (t : Bool) → int_lt b a ≡ t → (u : Bool) → int_lt d c ≡ u → t ≡ u
+    by true e true f = refl
+    by false e false f = refl
+    by true e false f = absurd (omega (arith, ints, e, back (no_less_if d c f)))
+    by false e true f = absurd (omega (arith, ints, f, go (no_less_if b a e)))
 
 -- ---- the higher of two lower ends
 pub higher-of_both : (own : Local) (r : ℕ) (P : Answer → Type 0) (a b : Answer) → P a → P b → P (higher_low own r a b)
-higher-of_both own r P a b = chosen P (int_lt (lower own a r) (lower own b r)) a b
+higher-of_both own r P a b =
+    chosen P (int_lt (lower own a r) (lower own b r)) (int_lt (lower own b r) (lower own a r)) (nat_lt b.t4 a.t4) a b
 
-pub higher-first : (own : Local) (r : ℕ) (a b : Answer) → lower own a r ≤ℤ lower own (higher_low own r a b) r
-higher-first own r a b = by (int_lt (lower own a r) (lower own b r)) refl
+-- it is no lower than either
+pub higher : (own : Local) (r : ℕ) (a b : Answer) → (lower own a r ≤ℤ lower own (higher_low own r a b) r)
+    × (lower own b r ≤ℤ lower own (higher_low own r a b) r)
+higher own r a b =
+    by (int_lt (lower own a r) (lower own b r)) refl (int_lt (lower own b r) (lower own a r)) refl (nat_lt b.t4 a.t4)
   where
-    by : (t : Bool) → int_lt (lower own a r) (lower own b r) ≡ t → lower own a r ≤ℤ lower own (if t then b else a) r
-    by true e = less_if (lower own a r) (lower own b r) e
-    by false e = omega (arith, ints)
+    by : (t : Bool) → int_lt (lower own a r) (lower own b r) ≡ t
+        → (u : Bool) → int_lt (lower own b r) (lower own a r) ≡ u → (v : Bool)
+        → (lower own a r ≤ℤ lower own (if t then b else if u then a else if v then b else a) r)
+        × (lower own b r ≤ℤ lower own (if t then b else if u then a else if v then b else a) r)
+    by true e u f v = (less_if (lower own a r) (lower own b r) e, omega (arith, ints))
+    by false e true f v = (omega (arith, ints), less_if (lower own b r) (lower own a r) f)
+    by false e false f true = (no_less_if (lower own b r) (lower own a r) f, omega (arith, ints))
+    by false e false f false = (omega (arith, ints), no_less_if (lower own a r) (lower own b r) e)
 
-pub higher-second : (own : Local) (r : ℕ) (a b : Answer) → lower own b r ≤ℤ lower own (higher_low own r a b) r
-higher-second own r a b = by (int_lt (lower own a r) (lower own b r)) refl
-  where
-    by : (t : Bool) → int_lt (lower own a r) (lower own b r) ≡ t → lower own b r ≤ℤ lower own (if t then b else a) r
-    by true e = omega (arith, ints)
-    by false e = no_less_if (lower own a r) (lower own b r) e
+-- of one declared error it is the same at each reading
+pub higher-alike : (own : Local) (r s : ℕ) (a b : Answer) → a.error ≡ b.error
+    → higher_low own r a b ≡ higher_low own s a b
+higher-alike own r s a b same =
+    let there = ends_move_alike own a b same in
+    let back = ends_move_alike own b a (sym same) in
+    ap₂ (λ (t u : Bool). if t then b else if u then a else if nat_lt b.t4 a.t4 then b else a)
+    (same_test (lower own b r) (lower own a r) (lower own b s) (lower own a s) (back.lows r s) (back.lows s r))
+    (same_test (lower own a r) (lower own b r) (lower own a s) (lower own b s) (there.lows r s) (there.lows s r))
 
 -- ---- the lesser of two upper ends
 pub lesser-of_both : (own : Local) (r : ℕ) (P : Answer → Type 0) (a b : Answer) → P a → P b → P (lesser_high own r a b)
-lesser-of_both own r P a b = chosen P (int_lt (upper own b r) (upper own a r)) a b
+lesser-of_both own r P a b =
+    chosen P (int_lt (upper own b r) (upper own a r)) (int_lt (upper own a r) (upper own b r)) (nat_lt b.t4 a.t4) a b
 
-pub lesser-first : (own : Local) (r : ℕ) (a b : Answer) → upper own (lesser_high own r a b) r ≤ℤ upper own a r
-lesser-first own r a b = by (int_lt (upper own b r) (upper own a r)) refl
+-- it is no greater than either
+pub lesser : (own : Local) (r : ℕ) (a b : Answer) → (upper own (lesser_high own r a b) r ≤ℤ upper own a r)
+    × (upper own (lesser_high own r a b) r ≤ℤ upper own b r)
+lesser own r a b =
+    by (int_lt (upper own b r) (upper own a r)) refl (int_lt (upper own a r) (upper own b r)) refl (nat_lt b.t4 a.t4)
   where
-    by : (t : Bool) → int_lt (upper own b r) (upper own a r) ≡ t → upper own (if t then b else a) r ≤ℤ upper own a r
-    by true e = less_if (upper own b r) (upper own a r) e
-    by false e = omega (arith, ints)
+    by : (t : Bool) → int_lt (upper own b r) (upper own a r) ≡ t
+        → (u : Bool) → int_lt (upper own a r) (upper own b r) ≡ u → (v : Bool)
+        → (upper own (if t then b else if u then a else if v then b else a) r ≤ℤ upper own a r)
+        × (upper own (if t then b else if u then a else if v then b else a) r ≤ℤ upper own b r)
+    by true e u f v = (less_if (upper own b r) (upper own a r) e, omega (arith, ints))
+    by false e true f v = (omega (arith, ints), less_if (upper own a r) (upper own b r) f)
+    by false e false f true = (no_less_if (upper own a r) (upper own b r) f, omega (arith, ints))
+    by false e false f false = (omega (arith, ints), no_less_if (upper own b r) (upper own a r) e)
 
-pub lesser-second : (own : Local) (r : ℕ) (a b : Answer) → upper own (lesser_high own r a b) r ≤ℤ upper own b r
-lesser-second own r a b = by (int_lt (upper own b r) (upper own a r)) refl
-  where
-    by : (t : Bool) → int_lt (upper own b r) (upper own a r) ≡ t → upper own (if t then b else a) r ≤ℤ upper own b r
-    by true e = omega (arith, ints)
-    by false e = no_less_if (upper own b r) (upper own a r) e
+pub lesser-alike : (own : Local) (r s : ℕ) (a b : Answer) → a.error ≡ b.error
+    → lesser_high own r a b ≡ lesser_high own s a b
+lesser-alike own r s a b same =
+    let there = ends_move_alike own a b same in
+    let back = ends_move_alike own b a (sym same) in
+    ap₂ (λ (t u : Bool). if t then b else if u then a else if nat_lt b.t4 a.t4 then b else a)
+    (same_test (upper own a r) (upper own b r) (upper own a s) (upper own b s) (there.highs r s) (there.highs s r))
+    (same_test (upper own b r) (upper own a r) (upper own b s) (upper own a s) (back.highs r s) (back.highs s r))
 
 -- what holds of both answers of each holds of both of the better
 pub better-of_both : (own : Local) (r : ℕ) (P : Answer → Type 0) (a b : Best) → OfBoth P a → OfBoth P b
@@ -73,10 +110,10 @@ pub record IsBeaten (own : Local) (r : ℕ) (best other : Best) : Type 0 where
   pub high : upper own best.high r ≤ℤ upper own other.high r
 
 beaten-first : (own : Local) (r : ℕ) (a b : Best) → IsBeaten own r (better_of own r a b) a
-beaten-first own r a b = record { low = higher-first own r a.low b.low; high = lesser-first own r a.high b.high }
+beaten-first own r a b = record { low = (higher own r a.low b.low).0; high = (lesser own r a.high b.high).0 }
 
 beaten-second : (own : Local) (r : ℕ) (a b : Best) → IsBeaten own r (better_of own r a b) b
-beaten-second own r a b = record { low = higher-second own r a.low b.low; high = lesser-second own r a.high b.high }
+beaten-second own r a b = record { low = (higher own r a.low b.low).1; high = (lesser own r a.high b.high).1 }
 
 beaten-itself : (own : Local) (r : ℕ) (a : Best) → IsBeaten own r a a
 beaten-itself own r a = record { low = omega (arith, ints); high = omega (arith, ints) }

@@ -15,7 +15,7 @@ use Rattle.css_agree.proofs.Shown.{lowest, highest, same_low, same_high}
 use Rattle.css_agree.proofs.Truth.{contradiction_is_false}
 
 -- what is less tests as less
-less : (a b : ℤ) → a <ℤ b → int_lt a b ≡ true
+pub less : (a b : ℤ) → a <ℤ b → int_lt a b ≡ true
 less a b h = by (int_lt a b) refl
   where
     by : (t : Bool) → int_lt a b ≡ t → int_lt a b ≡ true

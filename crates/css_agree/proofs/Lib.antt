@@ -7,6 +7,7 @@ pub mod Shared
 pub mod Truth
 pub mod Shown
 pub mod Disagreements
+pub mod Told
 pub mod Carrying
 pub mod Inputs
 pub mod Reading

@@ -11,10 +11,10 @@ use Rattle.css_span.specs.Frontiers.{Answers, IsPossible}
 use Rattle.css_agree.specs.declared.best.Best.{Best}
 use Rattle.css_agree.specs.Bests.{best_of}
 use Rattle.css_agree.specs.Agreements.{HasGreatestLow, HasLeastHigh}
-use Rattle.css_agree.specs.Keeping.{Kept, IsKept, OfBoth, IsMatched, StandsFor}
+use Rattle.css_agree.specs.Keeping.{Kept, IsKept, OfBoth, StandsFor}
 use Rattle.css_agree.proofs.Choices.{IsBeaten, best_of-beats, best_of-keeps, best_of-none, better-of_both}
 use Rattle.css_agree.proofs.Choices.{All-reversed, All-unreversed}
-use Rattle.css_agree.proofs.Standing.{both-later}
+use Rattle.css_agree.proofs.Standing.{Holds, IsMatched, both-later, kept-holds}
 
 -- rounding keeps the order
 pub lo-mono : (own : Local) (a b : Answer) (r : ℕ) → lower own a r ≤ℤ lower own b r → lo own a r ≤ℤ lo own b r
@@ -57,32 +57,30 @@ best-possible : (own : Local) (r s : ℕ) (xs : List Best) (best : Best) → IsL
 best-possible own r s xs best local later h e =
     best-of_both own s (IsPossible own s) xs best (both-later own r s xs local later h) e
 
-pub best-low : (kept : Kept) (r : ℕ) (added : Answers) (best : Best) → StandsFor kept added
-    → best_of kept.local r (reverse kept.bests) ≡ Some best → HasGreatestLow kept.local r added best.low
-best-low kept r added best stands e =
-    let own = kept.local in
-    let beaten : All (IsBeaten own r best) kept.bests =
-    All-unreversed (IsBeaten own r best) kept.bests (best_of-beats own r (reverse kept.bests) best e) in
-    let both : OfBoth (Contains added) best = best-of_both own r (Contains added) kept.bests best stands.from e in
+pub best-low : (own : Local) (r : ℕ) (bests : List Best) (added : Answers) (best : Best) → Holds own bests added
+    → best_of own r (reverse bests) ≡ Some best → HasGreatestLow own r added best.low
+best-low own r bests added best holds e =
+    let beaten : All (IsBeaten own r best) bests =
+    All-unreversed (IsBeaten own r best) bests (best_of-beats own r (reverse bests) best e) in
+    let both : OfBoth (Contains added) best = best-of_both own r (Contains added) bests best holds.from e in
     record {
       is_among = both.low;
-      greatest = All-weaker (IsMatched own kept.bests) (λ other. lo own other r ≤ℤ lo own best.low r)
-          (λ other m. lo-mono own other best.low r (low-matched own r best kept.bests other beaten m))
-          added stands.matched;
+      greatest = All-weaker (IsMatched own bests) (λ other. lo own other r ≤ℤ lo own best.low r)
+          (λ other m. lo-mono own other best.low r (low-matched own r best bests other beaten m))
+          added holds.matched;
     }
 
-pub best-high : (kept : Kept) (r : ℕ) (added : Answers) (best : Best) → IsLocal kept.local → StandsFor kept added
-    → best_of kept.local r (reverse kept.bests) ≡ Some best → HasLeastHigh kept.local r added best.high
-best-high kept r added best local stands e =
-    let own = kept.local in
-    let beaten : All (IsBeaten own r best) kept.bests =
-    All-unreversed (IsBeaten own r best) kept.bests (best_of-beats own r (reverse kept.bests) best e) in
-    let both : OfBoth (Contains added) best = best-of_both own r (Contains added) kept.bests best stands.from e in
+pub best-high : (own : Local) (r : ℕ) (bests : List Best) (added : Answers) (best : Best) → IsLocal own
+    → Holds own bests added → best_of own r (reverse bests) ≡ Some best → HasLeastHigh own r added best.high
+best-high own r bests added best local holds e =
+    let beaten : All (IsBeaten own r best) bests =
+    All-unreversed (IsBeaten own r best) bests (best_of-beats own r (reverse bests) best e) in
+    let both : OfBoth (Contains added) best = best-of_both own r (Contains added) bests best holds.from e in
     record {
       is_among = both.high;
-      least = All-weaker (IsMatched own kept.bests) (λ other. hi own best.high r ≤ℤ hi own other r)
-          (λ other m. hi-mono own best.high other r local (high-matched own r best kept.bests other beaten m))
-          added stands.matched;
+      least = All-weaker (IsMatched own bests) (λ other. hi own best.high r ≤ℤ hi own other r)
+          (λ other m. hi-mono own best.high other r local (high-matched own r best bests other beaten m))
+          added holds.matched;
     }
 
 -- where nothing is kept, nothing was added
@@ -90,13 +88,12 @@ nothing_matched : (own : Local) (added : Answers) → All (IsMatched own []) add
 nothing_matched own [] h = refl
 nothing_matched own (a ∷ added) h = absurd (All-head (IsMatched own []) a added h)
 
-pub nothing-added : (kept : Kept) (r : ℕ) (added : Answers) → StandsFor kept added
-    → best_of kept.local r (reverse kept.bests) ≡ None → added ≡ []
-nothing-added kept r added stands e =
-    let turned : reverse kept.bests ≡ [] = best_of-none kept.local r (reverse kept.bests) e in
-    let empty : kept.bests ≡ [] = sym (reverse-reverse kept.bests) ∙ ap reverse turned in
-    nothing_matched kept.local added
-    (subst (λ (xs : List Best). All (IsMatched kept.local xs) added) empty stands.matched)
+pub nothing-added : (own : Local) (r : ℕ) (bests : List Best) (added : Answers) → Holds own bests added
+    → best_of own r (reverse bests) ≡ None → added ≡ []
+nothing-added own r bests added holds e =
+    let turned : reverse bests ≡ [] = best_of-none own r (reverse bests) e in
+    let empty : bests ≡ [] = sym (reverse-reverse bests) ∙ ap reverse turned in
+    nothing_matched own added (subst (λ (xs : List Best). All (IsMatched own xs) added) empty holds.matched)
 
 -- ---- from the fields of the code to what contracts see of them
 -- what was found of the items is the best of what is kept

@@ -1,7 +1,7 @@
 -- What is printed of answers is what they say together.
 use Rattle.std.proofs.Common.{◌≡◌, ℕ, arith, refl, ap, sym, ◌∙◌, Bool, true, false, cond, List, [], ◌∷◌, ◌++◌}
 use Rattle.std.proofs.Common.{append_assoc}
-use Rattle.std.specs.Prelude.{ℤ, ◌≤ℤ◌, ◌<ℤ◌, int_lt, if◌then◌else◌, Contains, Result, Ok, Err, OnOk}
+use Rattle.std.specs.Prelude.{ℤ, ◌≤ℤ◌, ◌<ℤ◌, int_lt, if◌then◌else◌, Contains, Result, Ok, Err, OnOk, Some}
 use Rattle.std.specs.Result.{is_ok}
 use Rattle.std.specs.Int.{int_max, int_min}
 use Rattle.std.proofs.lemmas.Int.{ints}
@@ -13,6 +13,8 @@ use Rattle.css_agree.specs.Agreements.{HasGreatestLow, HasLeastHigh, AgreesAt, T
 use Rattle.css_agree.specs.Agreements.{DeclareInRange}
 use Rattle.css_agree.specs.declared.agreed.Agreed.{Agreed}
 use Rattle.css_agree.specs.declared.agreed.Agreed.TheVariants.{Nothing, Within, Disagree}
+use Rattle.css_agree.specs.declared.best.Best.{Best}
+use Rattle.css_agree.specs.Told.{told_by}
 use Rattle.css_agree.specs.Printed.{greatest_low, least_high, between, at_text, agreed_text, agree_line, disagree_line}
 use Rattle.css_agree.proofs.Truth.{agreement_is_true, contradiction_is_false}
 
@@ -200,40 +202,33 @@ shown own number reading (first ∷ others) (Disagree a b) h =
     ∙ between-apart number (lo own a reading) (hi own b reading) h.apart
 
 -- ---- answers always say something together
-said : (own : Local) (reading : ℕ) (added : Answers) (low high : Answer) → HasGreatestLow own reading added low
-    → HasLeastHigh own reading added high → (agreed : Agreed) × AgreesAt own reading added agreed
-said own reading added low high greatest least = by (int_lt (hi own high reading) (lo own low reading)) refl
+-- it is told by the two ends
+pub said : (own : Local) (reading : ℕ) (added : Answers) (best : Best) → HasGreatestLow own reading added best.low
+    → HasLeastHigh own reading added best.high → AgreesAt own reading added (told_by own reading (Some best))
+said own reading added best greatest least = by (int_lt (hi own best.high reading) (lo own best.low reading)) refl
   where
-    by : (b : Bool) → int_lt (hi own high reading) (lo own low reading) ≡ b
-        → (agreed : Agreed) × AgreesAt own reading added agreed
-    by true e = (
-      Disagree low high,
-      record {
-        greatest_low = greatest;
-        least_high = least;
-        apart = omega (arith, ints, e);
-      },
-    )
-    by false e = (
-      Within (record { lo = lo own low reading; hi = hi own high reading }),
-      record {
-        low = low;
-        high = high;
-        greatest_low = greatest;
-        least_high = least;
-        lower_end = refl;
-        upper_end = refl;
-        ordered = omega (arith, ints, e);
-        lies_in_each = λ k d within. record { low = greatest.greatest k d within; high = least.least k d within };
-      },
-    )
+    by : (b : Bool) → int_lt (hi own best.high reading) (lo own best.low reading) ≡ b
+        → AgreesAt own reading added (if b then Disagree best.low best.high
+        else Within (record { lo = lo own best.low reading; hi = hi own best.high reading }))
+    by true e = record { greatest_low = greatest; least_high = least; apart = omega (arith, ints, e) }
+    by false e = record {
+      low = best.low;
+      high = best.high;
+      greatest_low = greatest;
+      least_high = least;
+      lower_end = refl;
+      upper_end = refl;
+      ordered = omega (arith, ints, e);
+      lies_in_each = λ k d within. record { low = greatest.greatest k d within; high = least.least k d within };
+    }
 
 pub says : (own : Local) (reading : ℕ) (added : Answers) → (agreed : Agreed) × AgreesAt own reading added agreed
 says own reading [] = (Nothing, refl)
 says own reading (first ∷ others) =
     let low = lowest own reading first others in
     let high = highest own reading first others in
-    said own reading (first ∷ others) low.answer high.answer low.greatest high.least
+    let best : Best = record { low = low.answer; high = high.answer } in
+    (told_by own reading (Some best), said own reading (first ∷ others) best low.greatest high.least)
 
 -- and it is true
 pub true_of : (own : Local) (reading : ℕ) (added : Answers) (agreed : Agreed) → DeclareInRange added

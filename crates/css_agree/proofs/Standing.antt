@@ -1,20 +1,52 @@
 -- What stands for the answers added goes on standing for them with one more.
-use Rattle.std.proofs.Common.{◌≡◌, ℕ, suc, ◌≤◌, arith, refl, ap, sym, ◌∙◌, inl, inr, Bool, true, false}
+use Rattle.std.proofs.Common.{◌≡◌, ℕ, suc, ◌≤◌, arith, refl, ap, ap₂, sym, subst, ◌∙◌, inl, inr, Bool, true, false}
 use Rattle.std.proofs.Common.{List, [], ◌∷◌, length}
-use Rattle.std.specs.Prelude.{◌==◌, ◌||◌, ◌≤ℤ◌, if◌then◌else◌, All, Contains}
+use Rattle.std.specs.Prelude.{◌==◌, ◌||◌, ◌≤ℤ◌, ◌⊎◌, if◌then◌else◌, All, Contains}
 use Rattle.std.proofs.lemmas.Int.{ints}
 use Rattle.std.proofs.lemmas.Bool.{eqb-true}
 use Rattle.std.proofs.lemmas.List.Elements.{All-cons, All-head, All-tail, All-nil, All-weaker}
 use Rattle.css_model.specs.WallClock.{Answer, Local, IsLocal, lower, upper}
-use Rattle.css_span.specs.Frontiers.{Answers, IsPossible, declares}
+use Rattle.css_span.specs.Frontiers.{Answers, IsPossible, declares, error_count}
 use Rattle.css_model.proofs.Ends.{scaled_width-later}
 use Rattle.css_span.proofs.Standing.{possible-later}
 use Rattle.css_agree.specs.declared.best.Best.{Best}
-use Rattle.css_agree.specs.Bests.{better_of, alone, kept_with}
-use Rattle.css_agree.specs.Keeping.{OfBoth, DeclareOne, IsNoWorse, IsMatched, keeps, StandsFor}
+use Rattle.css_agree.specs.Bests.{better_of, alone, bests_of, kept_with}
+use Rattle.css_agree.specs.Keeping.{Kept, OfBoth, StandsFor}
 use Rattle.css_agree.proofs.Alike.{ends_move_alike}
-use Rattle.css_agree.proofs.Choices.{better-of_both, higher-of_both, higher-first, higher-second}
-use Rattle.css_agree.proofs.Choices.{lesser-of_both, lesser-first, lesser-second}
+use Rattle.css_agree.proofs.Choices.{better-of_both, higher, higher-alike, higher-of_both}
+use Rattle.css_agree.proofs.Choices.{lesser, lesser-alike, lesser-of_both}
+
+-- ---- what is kept
+-- both answers declare one error
+abbrev pub DeclareOne : Best → Type 0
+DeclareOne best = best.low.error ≡ best.high.error
+
+-- Both declare the answer's error. At every reading the lower end of the one isn't below the answer's, and the upper
+-- end of the other isn't above it, before they are rounded.
+pub record IsNoWorse (own : Local) (answer : Answer) (best : Best) : Type 0 where
+  pub same_low : best.low.error ≡ answer.error
+  pub same_high : best.high.error ≡ answer.error
+  pub low : (reading : ℕ) → lower own answer reading ≤ℤ lower own best.low reading
+  pub high : (reading : ℕ) → upper own best.high reading ≤ℤ upper own answer reading
+
+-- one of the kept is no worse than the answer
+abbrev pub IsMatched : Local → List Best → Answer → Type 0
+IsMatched own [] answer = ⊥
+IsMatched own (best ∷ bests) answer = IsNoWorse own answer best ⊎ IsMatched own bests answer
+
+-- whether one of the kept declares the error
+abbrev pub keeps : ℕ → List Best → Bool
+keeps error [] = false
+keeps error (best ∷ bests) = (best.low.error == error) || keeps error bests
+
+-- Each kept answer was added; for each answer added one of the kept is no worse; the same errors are declared, and by
+-- one of the kept each.
+pub record Holds (own : Local) (bests : List Best) (added : Answers) : Type 0 where
+  pub from : All (OfBoth (Contains added)) bests
+  pub same : All DeclareOne bests
+  pub matched : All (IsMatched own bests) added
+  pub errors : (error : ℕ) → keeps error bests ≡ declares error added
+  pub count : length bests ≡ error_count added
 
 -- ---- what holds of each answer that is kept, and of the new one, goes on holding of each that is kept
 pub of_both-with : (own : Local) (r : ℕ) (P : Answer → Type 0) (a : Answer) (xs : List Best) → P a → All (OfBoth P) xs
@@ -111,12 +143,12 @@ no_worse-first own r x a b same h =
       same_high = high ∙ sym one;
       low = λ s.
           let more : lower own x.low s ≤ℤ lower own better.low s =
-          (ends_move_alike own x.low better.low (same ∙ sym low)).lows r s (higher-first own r x.low a) in
+          (ends_move_alike own x.low better.low (same ∙ sym low)).lows r s (higher own r x.low a).0 in
           omega (arith, ints, h.low s);
       high = λ s.
           let less : upper own better.high s ≤ℤ upper own x.high s =
           (ends_move_alike own better.high x.high (high ∙ sym one ∙ sym h.same_high)).highs r s
-          (lesser-first own r x.high a) in
+          (lesser own r x.high a).0 in
           omega (arith, ints, h.high s);
     }
 
@@ -129,8 +161,8 @@ no_worse-second own r x a same one =
     record {
       same_low = low;
       same_high = high;
-      low = λ s. (ends_move_alike own a better.low (sym low)).lows r s (higher-second own r x.low a);
-      high = λ s. (ends_move_alike own better.high a high).highs r s (lesser-second own r x.high a);
+      low = λ s. (ends_move_alike own a better.low (sym low)).lows r s (higher own r x.low a).1;
+      high = λ s. (ends_move_alike own better.high a high).highs r s (lesser own r x.high a).1;
     }
 
 no_worse-alone : (own : Local) (a : Answer) → IsNoWorse own a (alone a)
@@ -174,27 +206,67 @@ contains-here a xs = (0, omega arith, refl)
 contains-there : (a b : Answer) (xs : Answers) → Contains xs b → Contains (a ∷ xs) b
 contains-there a b xs h = (suc h.0, omega (arith, h.1), h.2)
 
+-- what holds the best of some answers holds it with one more
+holds-with : (own : Local) (r : ℕ) (a : Answer) (xs : List Best) (added : Answers) → Holds own xs added
+    → Holds own (kept_with own r a xs) (a ∷ added)
+holds-with own r a xs added holds =
+    let before : All (OfBoth (Contains (a ∷ added))) xs =
+    All-weaker (OfBoth (Contains added)) (OfBoth (Contains (a ∷ added)))
+    (λ b h. record { low = contains-there a b.low added h.low; high = contains-there a b.high added h.high })
+    xs holds.from in
+    record {
+      from = of_both-with own r (Contains (a ∷ added)) a xs (contains-here a added) before;
+      same = of_one-with own r a xs holds.same;
+      matched = All-cons (IsMatched own (kept_with own r a xs)) a added
+          (matched-new own r a xs holds.same)
+          (All-weaker (IsMatched own xs) (IsMatched own (kept_with own r a xs))
+          (λ b. matched-with own r a b xs) added holds.matched);
+      errors = λ e. keeps-with own r a xs e ∙ ap (λ t. (a.error == e) || t) (holds.errors e);
+      count = length-with own r a xs
+          ∙ ap (λ t. if t then length xs else suc (length xs)) (holds.errors a.error)
+          ∙ ap (λ n. if declares a.error added then n else suc n) holds.count;
+    }
+
+pub bests-hold : (own : Local) (r : ℕ) (added : Answers) → Holds own (bests_of own r added) added
+bests-hold own r [] = record {
+  from = All-nil (OfBoth (Contains []));
+  same = All-nil DeclareOne;
+  matched = All-nil (IsMatched own []);
+  errors = λ e. refl;
+  count = refl;
+}
+bests-hold own r (a ∷ added) = holds-with own r a (bests_of own r added) added (bests-hold own r added)
+
+pub kept-holds : (kept : Kept) (added : Answers) → StandsFor kept added → Holds kept.local kept.bests added
+kept-holds kept added stands =
+    subst (λ (xs : List Best). Holds kept.local xs added) (sym (stands.exact 0)) (bests-hold kept.local 0 added)
+
+-- ---- at each reading the same is kept
+kept-alike : (own : Local) (r s : ℕ) (a : Answer) (xs : List Best) → All DeclareOne xs
+    → kept_with own r a xs ≡ kept_with own s a xs
+kept-alike own r s a [] one = refl
+kept-alike own r s a (x ∷ xs) one =
+    by (x.low.error == a.error) refl (kept-alike own r s a xs (All-tail DeclareOne x xs one))
+  where
+    by : (t : Bool) → (x.low.error == a.error) ≡ t → kept_with own r a xs ≡ kept_with own s a xs
+        → (if t then better_of own r x (alone a) ∷ xs else x ∷ kept_with own r a xs)
+        ≡ (if t then better_of own s x (alone a) ∷ xs else x ∷ kept_with own s a xs)
+    by true e ih =
+        let same : x.low.error ≡ a.error = eqb-true x.low.error a.error e in
+        let high : x.high.error ≡ a.error = sym (All-head DeclareOne x xs one) ∙ same in
+        ap₂ (λ (l h : Answer). record { low = l; high = h } ∷ xs) (higher-alike own r s x.low a same)
+        (lesser-alike own r s x.high a high)
+    by false e ih = ap (λ (ys : List Best). x ∷ ys) ih
+
 -- the answer is compared at reading s, and the floor goes from r to t
 pub stands-with : (own : Local) (r s t : ℕ) (a : Answer) (xs : List Best) (added : Answers) → IsLocal own → r ≤ t
     → IsPossible own t a
     → StandsFor (record { local = own; bests = xs; floor = r }) added
     → StandsFor (record { local = own; bests = kept_with own s a xs; floor = t }) (a ∷ added)
 stands-with own r s t a xs added local later possible stands =
-    let before : All (OfBoth (Contains (a ∷ added))) xs =
-    All-weaker (OfBoth (Contains added)) (OfBoth (Contains (a ∷ added)))
-    (λ b h. record { low = contains-there a b.low added h.low; high = contains-there a b.high added h.high })
-    xs stands.from in
+    let holds = kept-holds (record { local = own; bests = xs; floor = r }) added stands in
     record {
-      from = of_both-with own s (Contains (a ∷ added)) a xs (contains-here a added) before;
-      same = of_one-with own s a xs stands.same;
-      matched = All-cons (IsMatched own (kept_with own s a xs)) a added
-          (matched-new own s a xs stands.same)
-          (All-weaker (IsMatched own xs) (IsMatched own (kept_with own s a xs))
-          (λ b. matched-with own s a b xs) added stands.matched);
-      errors = λ e. keeps-with own s a xs e ∙ ap (λ t. (a.error == e) || t) (stands.errors e);
-      count = length-with own s a xs
-          ∙ ap (λ t. if t then length xs else suc (length xs)) (stands.errors a.error)
-          ∙ ap (λ n. if declares a.error added then n else suc n) stands.count;
+      exact = λ q. kept-alike own s q a xs holds.same ∙ ap (kept_with own q a) (stands.exact q);
       possible = All-cons (IsPossible own t) a added possible
           (possible-later own r t added local later stands.possible);
     }

@@ -1,19 +1,26 @@
 -- Which answers tell the two ends of the wall clock's span best, before the ends are rounded.
-use Rattle.std.specs.Prelude.{ℕ, ◌≡◌, ◌-◌, ◌<◌, ◌==◌, ◌≤ℤ◌, int_lt, if◌then◌else◌, List, [], ◌∷◌, length, take, set}
+use Rattle.std.specs.Prelude.{ℕ, ◌≡◌, ◌-◌, ◌<◌, ◌==◌, ◌≤ℤ◌, int_lt, nat_lt, if◌then◌else◌}
+use Rattle.std.specs.Prelude.{List, [], ◌∷◌, length, take, set}
 use Rattle.std.specs.Prelude.{Option, Some, None, IfSome}
 use Rattle.css_model.specs.WallClock.{Answer, Local, lower, upper}
 use Rattle.css_agree.specs.declared.best.Best.{Best}
 use Rattle.css_agree.specs.declared.best.Replaced.{Replaced}
 
--- of two answers the one with the greater lower end at the reading; of equals the first
+-- of two answers the one with the greater lower end at the reading; of equals the one that landed earlier, or the first
 abbrev pub higher_low : Local → ℕ → Answer → Answer → Answer
 higher_low own reading first second =
-    if int_lt (lower own first reading) (lower own second reading) then second else first
+    if int_lt (lower own first reading) (lower own second reading) then second
+    else if int_lt (lower own second reading) (lower own first reading) then first
+    else if nat_lt second.t4 first.t4 then second
+    else first
 
--- of two answers the one with the lesser upper end at the reading; of equals the first
+-- of two answers the one with the lesser upper end at the reading; of equals the one that landed earlier, or the first
 abbrev pub lesser_high : Local → ℕ → Answer → Answer → Answer
 lesser_high own reading first second =
-    if int_lt (upper own second reading) (upper own first reading) then second else first
+    if int_lt (upper own second reading) (upper own first reading) then second
+    else if int_lt (upper own first reading) (upper own second reading) then first
+    else if nat_lt second.t4 first.t4 then second
+    else first
 
 -- the better answer of two at each end
 abbrev pub better_of : Local → ℕ → Best → Best → Best
@@ -43,6 +50,11 @@ kept_with own reading answer (best ∷ bests) =
     if best.low.error == answer.error
     then better_of own reading best (alone answer) ∷ bests
     else best ∷ kept_with own reading answer bests
+
+-- what is kept of answers, the newest of which stands first, by their ends at one reading
+abbrev pub bests_of : Local → ℕ → List Answer → List Best
+bests_of own reading [] = []
+bests_of own reading (newer ∷ older) = kept_with own reading newer (bests_of own reading older)
 
 -- what made room for an answer has its place among these
 abbrev pub HasPlace : Option Replaced → List Best → Type 0

@@ -6,6 +6,7 @@ pub mod Verdicts
 pub mod FaultWords
 pub mod Inputs
 pub mod Printed
+pub mod Told
 pub mod Disagreements
 pub mod Carrying
 pub mod Agreeing

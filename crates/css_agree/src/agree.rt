@@ -4,6 +4,7 @@ ghost use Rattle.css_span.specs.Frontiers.{Answers, error_count};
 ghost use Rattle.css_agree.specs.Agreements.{AgreesAt, ArePossible, TellsTruth};
 ghost use Rattle.css_agree.specs.Disagreements.{disagree};
 ghost use Rattle.css_agree.specs.Keeping.{StandsFor, Adds, CanGoBack, GoesBack, before};
+ghost use Rattle.css_agree.specs.Told.{agreed_of};
 ghost use Rattle.css_agree.specs.Verdicts.{verdict};
 
 use crate::agreed::Agreed;
@@ -114,11 +115,13 @@ impl Agree {
 
     /// What the answers say at a reading: the span from the greatest lower end of their spans at the reading to the
     /// least upper end. Where these are out of order, it names an answer that has the one and an answer that has the
-    /// other. They may be the same answer at a reading before its landing.
+    /// other. They may be the same answer at a reading before its landing. Where several have an end, before it is
+    /// rounded, it names the one that landed first.
     ///
     /// What is said is true of moments at which all answers have landed.
     pub fn at(&self, reading: u64) -> Agreed
         requires range { reading < LIMIT }
+        ensures value { (added : Answers) → StandsFor self.now added → result ≡ agreed_of self.now.local reading added }
         ensures agrees { (added : Answers) → StandsFor self.now added → AgreesAt self.now.local reading added result }
         ensures truth { (added : Answers) → StandsFor self.now added → TellsTruth self.now.local reading added result }
         ensures possible { self.now.floor ≤ reading → ArePossible self.now.local reading result }

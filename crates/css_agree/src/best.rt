@@ -23,16 +23,50 @@ pub(crate) struct Replaced {
     pub(crate) best: Best,
 }
 
-/// The better answer of the two at each end; of equals the first.
+/// The answer with the greater lower end. Of equals it is the one that landed earlier, or else the first.
+fn higher_low(first: &Answer, second: &Answer, local: &Local, reading: u64) -> Answer
+    requires { reading < LIMIT }
+    ensures { result ≡ bests.higher_low local.now reading first.now second.now }
+{
+    let one = lower_end(first, local, reading);
+    let other = lower_end(second, local, reading);
+    if one < other {
+        *second
+    } else if other < one {
+        *first
+    } else if second.t4 < first.t4 {
+        *second
+    } else {
+        *first
+    }
+}
+
+/// The answer with the lesser upper end. Of equals it is the one that landed earlier, or else the first.
+fn lesser_high(first: &Answer, second: &Answer, local: &Local, reading: u64) -> Answer
+    requires { reading < LIMIT }
+    ensures { result ≡ bests.lesser_high local.now reading first.now second.now }
+{
+    let one = upper_end(first, local, reading);
+    let other = upper_end(second, local, reading);
+    if other < one {
+        *second
+    } else if one < other {
+        *first
+    } else if second.t4 < first.t4 {
+        *second
+    } else {
+        *first
+    }
+}
+
+/// The better answer of the two at each end.
 fn better(first: &Best, second: &Best, local: &Local, reading: u64) -> Best
     requires { reading < LIMIT }
     ensures { result ≡ bests.better_of local.now reading first.now second.now }
 {
-    let is_higher = lower_end(&first.low, local, reading) < lower_end(&second.low, local, reading);
-    let is_lower = upper_end(&second.high, local, reading) < upper_end(&first.high, local, reading);
     Best {
-        low: if is_higher { second.low } else { first.low },
-        high: if is_lower { second.high } else { first.high },
+        low: higher_low(&first.low, &second.low, local, reading),
+        high: lesser_high(&first.high, &second.high, local, reading),
     }
 }
 

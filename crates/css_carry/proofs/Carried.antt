@@ -3,7 +3,7 @@ use Rattle.std.proofs.Common.{◌≡◌, ℕ, arith, refl, subst, []}
 use Rattle.std.proofs.lemmas.Int.{ints}
 use Rattle.std.proofs.lemmas.List.Elements.{All-nil, All-cons}
 use Rattle.std.specs.Prelude.{ℤ, pos, ◌≤ℤ◌, ◌*ℤ◌, Some, Result, Ok, Err}
-use Rattle.css_agree.proofs.Carrying.{carrying_is_true}
+use Rattle.css_agree.proofs.Carrying.{carried_spans_are_true, carrying_is_true}
 use Rattle.css_agree.specs.Agreements.{IsTruthful}
 use Rattle.css_agree.specs.Carrying.{carried}
 use Rattle.css_clock.proofs.Goes.{root_goes, child_goes, span_of-all}
@@ -16,7 +16,7 @@ use Rattle.css_companion.specs.Reports.{HasTickOf, assigned_by, report_by, tick_
 use Rattle.css_companion.specs.declared.knowledge.Timing.{Timing}
 use Rattle.css_companion.specs.declared.report.Cause.{Cause}
 use Rattle.css_num.specs.Spans.{Covers, Interval}
-use Rattle.css_carry.specs.CarriedReports.{CarriedReportsAreTrue}
+use Rattle.css_carry.specs.CarriedReports.{CarriedReportsAreTrue, CarriedSpansHaveTicks}
 
 -- the ticks at the ends of a span have between them the tick at each value of the span
 has_tick : (span : Interval) (timing : Timing) (wall : ℕ) → Covers span (pos wall)
@@ -52,3 +52,10 @@ carried_reports_are_true own selector history answer told reading later most tel
     let told_within : Covers (carried own told.error told.wall reading later) (pos (world i).wall) =
     rw (tells.wall, tells.error) within in
     reported (carried own told.error told.wall reading later) (timing_after selector history) (world i).wall told_within
+
+pub carried_spans_have_ticks : CarriedSpansHaveTicks
+carried_spans_have_ticks own selector history error span reading later errors world who sleeps i j for declared most
+    order from to within =
+    reported (carried own error span reading later) (timing_after selector history) (world j).wall
+    (carried_spans_are_true errors world who own error sleeps i j reading later span for declared most order from to
+    within)

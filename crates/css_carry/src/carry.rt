@@ -9,7 +9,6 @@ use css_companion::{Cause, Report, Timing, ticks_at};
 use css_model::LIMIT;
 use css_num::Span;
 use css_span::{Answer, Local, span};
-use css_watch_lines::Known;
 
 /// How far the wall clock goes from one reading to a later one, in nanoseconds. It is the span of an answer that came
 /// at once, when the wall clock showed 0.
@@ -60,27 +59,29 @@ fn wall_at(wall: Span, error: u32, local: &Local, reading: u64, later: u64) -> S
     }
 }
 
-/// The report at a later reading, by what the line of a report told and by the timing that was told last.
+/// The report at a later reading, by a span that the line of a report told, its `agreed` or its `wall`, by the error in
+/// the line, and by the timing that was told last.
 ///
 /// `reading` is that of the report, and no sleep of the machine lies between. The rate and the speed in the line don't
 /// count any more: the timing has those of the last state and of the last control timestamp.
 pub fn carried_report(
-    told: &Known,
+    told: Span,
+    error: u32,
     local: &Local,
     reading: u64,
     timing: &Result<Timing, Cause>,
     later: u64,
 ) -> Report
-    requires told { reports.CanBeCarried told.now }
+    requires told { reports.CanBeCarried error told }
     requires order { reading ≤ later }
     requires range { later < LIMIT }
     requires timed { IfOk timing.now IsTimed }
-    ensures { result ≡ reports.carried_report local.now reading told.now timing.now later }
+    ensures { result ≡ reports.carried_report local.now reading error told timing.now later }
 {
     match timing {
         Err(cause) => Report::None(*cause),
         Ok(timing) => {
-            let wall = wall_at(told.wall, told.error, local, reading, later);
+            let wall = wall_at(told, error, local, reading, later);
             ticks_at(wall, timing)
         }
     }

@@ -21,6 +21,10 @@ const AT_5000: &[u8] =
 const AT_9000: &[u8] =
     b"\0\x01\xe2\0\0\0\0\0\0\0\0\0\0\0\x03\xe8\0\0\0\0\0\0\x23\x28\0\0\0\0\0\0\x23\x28";
 
+/// A response to the request of the reading 1000, with the receive value 6030 and the transmit value 6040.
+const AT_6030: &[u8] =
+    b"\0\x01\xe2\0\0\0\0\0\0\0\0\0\0\0\x03\xe8\0\0\0\0\0\0\x17\x8e\0\0\0\0\0\0\x17\x98";
+
 /// No datagram.
 const NONE: &[u8] = b"";
 
@@ -89,14 +93,32 @@ macro_rules! answer {
     };
 }
 
+/// One of two answers that contradict each other, of which nothing is declared.
+#[rattlefmt::skip]
+macro_rules! exchange {
+    ($landed:literal, $originate:literal, $value:literal) => {
+        concat!(r#"{"error":0,"landed":""#, $landed, r#"","originate":""#, $originate,
+            r#"","precision":"1","receive":""#, $value, r#"","transmit":""#, $value, r#""}"#)
+    };
+}
+
+/// The end of a visit of which the second answer contradicts the first.
+#[rattlefmt::skip]
+const DISAGREED: &str = concat!(r#"{"between":["#, exchange!("1100", "1000", "9000"), ",",
+    exchange!("100", "0", "5000"), r#"],"event":"end","number":1,"why":"disagree"}"#);
+
 /// The response of the reading 6 lands at 8.
 const ANSWER: &str = answer!("0", "1", "8", "6", "5000", "5001", "7");
 
-/// A report with these ticks, and with this wall clock.
+/// A report with these ticks, with this wall clock, and with what all answers allow of it where that is another span.
 #[rattlefmt::skip]
 macro_rules! known {
     ($error:literal, $number:literal, $reading:literal, $speed:literal, $ticks:literal, $wall:literal) => {
-        concat!(r#"{"error":"#, $error, r#","event":"report","number":"#, $number,
+        known!($error, $number, $reading, $speed, $ticks, $wall, $wall)
+    };
+    ($error:literal, $number:literal, $reading:literal, $speed:literal, $ticks:literal, $wall:literal,
+        $agreed:literal) => {
+        concat!(r#"{"agreed":["#, $agreed, r#"],"error":"#, $error, r#","event":"report","number":"#, $number,
             r#","rate":{"unitsPerSecond":90000,"unitsPerTick":1},"reading":""#, $reading, r#"","speed":"#, $speed,
             r#","ticks":["#, $ticks, r#"],"wall":["#, $wall, "]}")
     };
@@ -268,6 +290,19 @@ const DISAGREES: World = World {
     slept: &[],
     datagrams: &[AT_5000, AT_9000],
     texts: &[(1, Said::Text(WC_TOLD))],
+};
+
+/// Two answers together say more than each of them.
+#[rattlefmt::skip]
+const ALLOWS: Case<'static> = Case {
+    words: "watch --cii ws://127.0.0.1:6677/cii --seconds 1 --ask-every 1000 --report-every 2000 --local-error 0 \
+--local-precision 0",
+    world: World {
+        times: &[0, 0, 0, 100, 1_000, 1_000, 1_100, 2_000, 2_000, 1_000_000_000],
+        datagrams: &[AT_5000, AT_6030],
+        ..ANSWERED
+    },
+    ..BLANK
 };
 
 #[rattlefmt::skip]
@@ -443,8 +478,14 @@ pub const VISITS: &[WatchRow] = &[
             no_answer!("1", "1000000000", "no wcUrl")]),
     ("the wall clock is set", Case { world: DISAGREES, ..ASKING }, "no interval in 1 reports",
         &[VISIT, CII_OPEN, STATE_WC, WC_OPEN, answer!("0", "1", "100", "0", "5000", "5000", "106"),
-            answer!("0", "1", "1100", "1000", "9000", "9000", "106"), r#"{"event":"end","number":1,"why":"disagree"}"#,
+            answer!("0", "1", "1100", "1000", "9000", "9000", "106"), DISAGREED,
             r#"{"event":"visit","number":2,"reading":"1000000000"}"#, no_answer!("1", "1000000000", "CII isn't open")]),
+    ("two answers that agree", ALLOWS, "done",
+        &[VISIT, CII_OPEN, STATE_BOTH, WC_OPEN, TS_OPEN, answer!("0", "1", "100", "0", "5000", "5000", "106"), CONTROL,
+            answer!("0", "1", "1100", "1000", "6030", "6040", "96"),
+            known!("0", "1", "2000", "1", r#""900000","900000""#, r#""6937","7033""#, r#""6937","7003""#),
+            known!("0", "2", "1000000000", "1", r#""990000","990000""#, r#""1000004937","1000005033""#,
+                r#""1000004937","1000005003""#)]),
     ("a sleep between two reports", Case { world: SLEEPS, ..OFTEN }, "done",
         &[VISIT, CII_OPEN, STATE_BOTH, WC_OPEN, TS_OPEN, ANSWER, CONTROL, REPORT,
             r#"{"event":"slept","reading":"20"}"#,

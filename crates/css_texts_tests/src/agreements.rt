@@ -125,6 +125,22 @@ fn answers_are_apart(rt: HostRuntime) {
     check_steps(&rt, rt.alloc(), EXACT, &steps);
 }
 
+/// Of answers that share an end the one is named that landed first, whichever error it declares, in any order.
+#[rattlefmt::skip]
+#[test]
+fn the_earliest_is_named(rt: HostRuntime) {
+    let early = Answer { t1: 900, t2: 4900, t4: 1500, ..FIRST };
+    let loose = Answer { t3: 7191, t4: 2390, error: 25_600_000, ..MOVED };
+    for answers in [[FIRST, early, MOVED, loose], [loose, MOVED, early, FIRST]] {
+        let mut agree = Agree::new(rt.alloc(), EXACT);
+        for answer in &answers {
+            agree.add(*answer, 2401).expect(&rt, "an answer");
+        }
+        let told = Agreed::Disagree { low: loose, high: early };
+        check_told(&rt, &agree, 2401, &told);
+    }
+}
+
 #[rattlefmt::skip]
 #[test]
 fn numbers_may_be_at_their_ends(rt: HostRuntime) {

@@ -23,10 +23,11 @@ const WORST: Local = Local { error: 2_560_000, precision: 1_000_000_000 };
 /// A report of the programme before, whose timeline has 90,000 ticks a second.
 #[rattlefmt::skip]
 fn before(rt: &impl Abort) -> Known
-    ensures { CanBeCarried result }
+    ensures { CanBeCarried result.error result.wall }
 {
     Known {
         ticks: Ticks { lo: 629_865, hi: 630_135 },
+        agreed: Span { lo: 6_999_500_000, hi: 7_000_500_000 },
         wall: Span { lo: 6_998_500_000, hi: 7_001_500_000 },
         error: 128_000,
         rate: Rate::of(1, 90_000).expect(rt, "a rate"),
@@ -59,7 +60,14 @@ fn the_rate_is_that_of_the_last_state(rt: HostRuntime) {
     let told = before(&rt);
     for (speed, units_per_second, units_per_tick, lo, hi) in ROWS {
         let timing = timing(&rt, speed, Rate::of(units_per_tick, units_per_second));
-        let report = carried_report(&told, &FAIR, 1_000_000_000, &Ok(timing), 1_500_000_000);
+        let report = carried_report(
+            told.wall,
+            told.error,
+            &FAIR,
+            1_000_000_000,
+            &Ok(timing),
+            1_500_000_000,
+        );
         let right = report == Report::Ticks { lo, hi };
         assert!(rt;
             right,
@@ -71,7 +79,8 @@ fn the_rate_is_that_of_the_last_state(rt: HostRuntime) {
 #[test]
 fn without_a_timing_there_is_its_cause(rt: HostRuntime) {
     for cause in [Cause::NoRate, Cause::Unavailable] {
-        let report = carried_report(&before(&rt), &FAIR, 5, &Err(cause), 5);
+        let told = before(&rt);
+        let report = carried_report(told.wall, told.error, &FAIR, 5, &Err(cause), 5);
         check_that(&rt, report == Report::None(cause), "a cause");
     }
 }
@@ -80,10 +89,10 @@ fn without_a_timing_there_is_its_cause(rt: HostRuntime) {
 #[test]
 fn carried_numbers_may_be_at_their_ends(rt: HostRuntime) {
     let end = 147_573_952_589_676_412_928;
-    let told = Known { wall: Span { lo: -end, hi: end }, error: 25_600_000, ..before(&rt) };
+    let widest = Span { lo: -end, hi: end };
     let rate = Rate::of(1, 1_000_000_000).expect(&rt, "a rate");
     let timing = Timing { content: i64::MAX, wall: 0, speed: 64, rate };
-    let report = carried_report(&told, &WORST, 0, &Ok(timing), LIMIT - 1);
+    let report = carried_report(widest, 25_600_000, &WORST, 0, &Ok(timing), LIMIT - 1);
     let (lo, hi) = (-9_190_568_884_658_475_255_745, 9_759_376_234_522_811_869_951);
     check_that(&rt, report == Report::Ticks { lo, hi }, "the ends");
 }

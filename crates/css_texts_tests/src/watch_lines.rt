@@ -9,8 +9,8 @@ use css_num::{Memory, Rate, Span, Text};
 use css_span::Answer;
 use css_tsmsg::{TsFault, TsName, read_control};
 use css_watch_lines::{
-    Known, Ticks, answer_line, cause_line, control_line, dial_line, front, known_line,
-    refused_end_line, refused_line, slept_line, state_line, unread_line, visit_line,
+    Between, Known, Ticks, answer_line, apart_end_line, cause_line, control_line, dial_line, front,
+    known_line, refused_end_line, refused_line, slept_line, state_line, unread_line, visit_line,
 };
 use std::alloc::Global;
 use std::process::Abort;
@@ -210,6 +210,10 @@ fn a_report_has_all_that_carries_it_on(rt: HostRuntime) {
             lo: -3,
             hi: 900_000,
         },
+        agreed: Span {
+            lo: 9_999_999_998,
+            hi: 10_000_000_003,
+        },
         wall: Span {
             lo: 9_999_999_990,
             hi: 10_000_000_010,
@@ -219,10 +223,25 @@ fn a_report_has_all_that_carries_it_on(rt: HostRuntime) {
         speed: -1,
     };
     let line = concat!(
-        r#"{"error":128000,"event":"report","number":2,"rate":{"unitsPerSecond":90000,"unitsPerTick":1},"#,
+        r#"{"agreed":["9999999998","10000000003"],"error":128000,"event":"report","number":2,"#,
+        r#""rate":{"unitsPerSecond":90000,"unitsPerTick":1},"#,
         r#""reading":"5","speed":-1,"ticks":["-3","900000"],"wall":["9999999990","10000000010"]}"#
     );
     check_line(&rt, alloc, known_line(alloc, 2, 5, &known), line);
+}
+
+#[rattlefmt::skip]
+#[test]
+fn an_end_names_two_answers(rt: HostRuntime) {
+    let alloc = rt.alloc();
+    let above = Answer { t1: 1, t2: 2, t3: LAST, t4: 4, precision: 5, error: 25_600_000 };
+    let below = Answer { t1: LAST, t2: 20, t3: 30, t4: 40, precision: 0, error: 0 };
+    let line = concat!(
+        r#"{"between":[{"error":25600000,"landed":"4","originate":"1","precision":"5","receive":"2","#,
+        r#""transmit":"4294967295999999999"},{"error":0,"landed":"40","originate":"4294967295999999999","#,
+        r#""precision":"0","receive":"20","transmit":"30"}],"event":"end","number":7,"why":"disagree"}"#
+    );
+    check_line(&rt, alloc, apart_end_line(alloc, 7, "disagree", &Between { above, below }), line);
 }
 
 #[test]

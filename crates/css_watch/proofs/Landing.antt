@@ -18,9 +18,10 @@ use Rattle.css_outside.specs.Bytes.{AppendsPrefix}
 use Rattle.css_outside.specs.declared.fault.OutFault.TheVariants as fault
 use Rattle.css_outside.specs.declared.fault.OutFault.{OutFault}
 use Rattle.css_span.specs.Frontiers.{Answers}
-use Rattle.css_watch.specs.Progress.{after_landing, judged}
+use Rattle.css_watch_lines.specs.declared.known.Between.{Between}
+use Rattle.css_watch.specs.Progress.{after_landing, between_at, judged}
 use Rattle.css_watch.specs.Telling.{landing_line, lines_by, parting_at, slept_lines, text_of}
-use Rattle.css_watch.specs.Watching.{Accepts, IsOf, IsPossibleAt, IsStep, Says}
+use Rattle.css_watch.specs.Watching.{Accepts, IsOf, IsPossibleAt, IsStep, Says, parted_by}
 use Rattle.css_drive.specs.declared.parting.Parting.{Parting}
 use Rattle.css_watch.specs.declared.plan.Plan.{Plan}
 use Rattle.css_watch.specs.declared.progress.Progress.{Progress}
@@ -59,25 +60,26 @@ judged_so plan reading bytes history companion result k judges =
 pub step_of : (plan : Plan) (reading : ℕ) (bytes : List ℕ) (history : History) (companion : Companion)
     (answers : Answers) (was is : Progress) (old new : Kept) (over : Option OutFault) (parting : Option Parting)
     (held holds : Option (List ℕ)) (before now : ℕ) (result : Result Answer Landing) (text : Result (List ℕ) Memory)
-    (wanted : Option Parting) (accepted : Kept) → Knows plan.run.companion companion history → IsOf plan old answers
+    (between : Option Between) (accepted : Kept) → Knows plan.run.companion companion history → IsOf plan old answers
     → ((history : History) → companions.StandsFor companion history
     → result ≡ judged_of (own_of companion) history reading bytes)
     → IfOk text (λ x. x ≡ text_of (landing_line plan.run.companion.local reading bytes result ∷
     slept_lines reading was))
     → ((answers : Answers) → StandsFor old answers → IsPossibleAt old.local reading result
-    → Accepts old.local reading result answers accepted wanted)
-    → is ≡ after_landing result was → new ≡ accepted
-    → ((bytes : List ℕ) → IfOk text (λ x. x ≡ bytes) → Says over parting wanted held holds before now bytes)
+    → Accepts old.local reading result answers accepted between)
+    → is ≡ after_landing result between was → new ≡ accepted
+    → ((bytes : List ℕ) → IfOk text (λ x. x ≡ bytes)
+    → Says over parting (parted_by between) held holds before now bytes)
     → IsStep plan (notes.Landed reading bytes) history answers was is new over parting held holds before now
 step_of plan reading bytes history companion answers was is old new over parting held holds before now result text
-    wanted accepted k of judges said accepts went same says =
+    between accepted k of judges said accepts went same says =
     let own = plan.run.companion.local in
     let e : result ≡ judged plan history reading bytes = judged_so plan reading bytes history companion result k judges
     in
     let P : Result Answer Landing → Type 0 = λ x. IsPossibleAt own reading x in
     let L : Local → Type 0 = λ x. IsPossibleAt x reading result in
-    let A : Local → Type 0 = λ x. Accepts x reading result answers accepted wanted in
-    let a : Accepts own reading result answers accepted wanted =
+    let A : Local → Type 0 = λ x. Accepts x reading result answers accepted between in
+    let a : Accepts own reading result answers accepted between =
     subst A of.local (accepts answers of.stands (subst L (sym of.local) (subst P (sym e) (judged_possible own history
     reading bytes))))
     in
@@ -85,28 +87,24 @@ step_of plan reading bytes history companion answers was is old new over parting
     let J : Result Answer Landing → Type 0 = λ x. IsOf plan accepted (with_judged x answers) in
     let W : Option Parting → Type 0 = λ x. Says over parting x held holds before now (text_of (landing_line own reading
     bytes (judged plan history reading bytes) ∷ slept_lines reading was)) in
-    let T : Result Answer Landing → Type 0 = λ x. Says over parting wanted held holds before now (text_of (landing_line
-    own reading bytes x ∷ slept_lines reading was)) in
+    let T : Result Answer Landing → Type 0 = λ x. Says over parting (parted_by between) held holds before now (text_of
+    (landing_line own reading bytes x ∷ slept_lines reading was)) in
     record {
       says = subst W (a.parting_so ∙ ap (λ x. parting_at own reading x answers) e)
           (subst T e (says (text_of (landing_line own reading bytes result ∷ slept_lines reading was)) said));
-      progress_so = λ none. went ∙ ap (λ x. after_landing x was) e;
+      progress_so = λ none. went ∙ ap (λ x. after_landing result x was) a.between_so
+          ∙ ap (λ x. after_landing x (between_at own reading x answers) was) e;
       agree_so = λ none. subst N (sym same) (subst J e (record { local = a.local; stands = a.stands }));
     }
 
 -- memory ran out
-pub failed_of : (plan : Plan) (reading : ℕ) (bytes : List ℕ) (history : History) (companion : Companion)
-    (answers : Answers) (was is : Progress) (new : Kept) (over : Option OutFault) (parting : Option Parting)
-    (held holds : Option (List ℕ)) (before now : ℕ) (result : Result Answer Landing)
-    → Knows plan.run.companion companion history
-    → ((history : History) → companions.StandsFor companion history
-    → result ≡ judged_of (own_of companion) history reading bytes)
-    → is ≡ after_landing result was → over ≡ Some fault.Memory → parting ≡ None → holds ≡ held → now ≡ before
+pub failed_of : (plan : Plan) (reading : ℕ) (bytes : List ℕ) (history : History) (answers : Answers)
+    (was is : Progress) (new : Kept) (over : Option OutFault) (parting : Option Parting) (held holds : Option (List ℕ))
+    (before now : ℕ) → over ≡ Some fault.Memory → parting ≡ None → holds ≡ held → now ≡ before
     → IsStep plan (notes.Landed reading bytes) history answers was is new over parting held holds before now
-failed_of plan reading bytes history companion answers was is new over parting held holds before now result k judges
-    went o p h n =
+failed_of plan reading bytes history answers was is new over parting held holds before now o p h n =
     let P : Option (List ℕ) → Type 0 = λ x. AppendsPrefix held x (text_of (lines_by plan (notes.Landed reading bytes)
-    history was)) in
+    history was answers)) in
     record {
       says = record {
         cause = Some fault.Memory;
@@ -114,7 +112,6 @@ failed_of plan reading bytes history companion answers was is new over parting h
         parting_so = p;
         wrote = (subst P (sym h) (no_prefix held _), n);
       };
-      progress_so = λ none. went ∙ ap (λ x. after_landing x was) (judged_so plan reading bytes history companion
-          result k judges);
+      progress_so = λ none. absurd (cc);
       agree_so = λ none. absurd (cc);
     }

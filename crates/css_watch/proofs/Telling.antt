@@ -13,12 +13,15 @@ use Rattle.css_outside.specs.Bytes.{AppendsPrefix}
 use Rattle.css_outside.specs.Faults.{CountsOutFault}
 use Rattle.css_outside.specs.declared.fault.OutFault.{OutFault}
 use Rattle.css_drive.specs.Notes.{Event, Slept, Note, Happened, Standpoint, slept_from, slept_notes}
+use Rattle.std.specs.Prelude.{is_some}
 use Rattle.css_agree.specs.Disagreements.{disagree}
+use Rattle.css_agree.specs.Told.{agreed_of}
 use Rattle.css_client.specs.declared.landing.Landing.{Landing}
 use Rattle.css_model.specs.WallClock.{Answer, Local}
 use Rattle.css_span.specs.Frontiers.{Answers}
 use Rattle.css_watch_lines.specs.Lines.{Line, line_text}
-use Rattle.css_watch.specs.Progress.{progress_after, after_sleep}
+use Rattle.css_watch_lines.specs.declared.known.Between.{Between}
+use Rattle.css_watch.specs.Progress.{between_in, progress_after, after_sleep}
 use Rattle.css_watch.specs.Telling as telling
 use Rattle.css_watch.specs.Telling.{Told, told_of, text_of, lines_by, answers_after}
 use Rattle.css_watch.specs.Watching.{Accepts, AreFrom, GoesOn, IsOf, IsStep, IsTelling, IsToldBy, Says, Steps}
@@ -129,8 +132,10 @@ step_on plan start from event notes was is old new over parting held mid holds b
         → wanted ≡ telling.parting_by plan event from.history (told_of plan start notes).progress (told_of plan start
         notes).answers
         → over ≡ over_by cause wanted → parting ≡ parting_by cause wanted
-        → Writes cause mid holds m now (text_of (lines_by plan event from.history (told_of plan start notes).progress))
-        → (cause ≡ None → is ≡ progress_after plan event from.history (told_of plan start notes).progress)
+        → Writes cause mid holds m now (text_of (lines_by plan event from.history (told_of plan start notes).progress
+        (told_of plan start notes).answers))
+        → (cause ≡ None → is ≡ progress_after plan event from.history (told_of plan start notes).progress (told_of plan
+        start notes).answers)
         → (cause ≡ None → IsOf plan new (answers_after plan event from.history (told_of plan start notes).answers))
         → IsTelling plan start over parting is new held holds before now (Happened from event ∷ notes)
     by None None w o p wrote progress agree =
@@ -144,7 +149,7 @@ step_on plan start from event notes was is old new over parting held mid holds b
           parting_so = ap (λ x. option_or x (telling.parting_by plan event from.history (told_of plan start
               notes).progress (told_of plan start notes).answers)) g.parting_so ∙ sym w;
           wrote = lines_on None held mid holds before m now (lines_by plan event from.history (told_of plan
-              start notes).progress) (told_of plan start notes).lines g.wrote wrote;
+              start notes).progress (told_of plan start notes).answers) (told_of plan start notes).lines g.wrote wrote;
         }))
     by None (Some why) w o p wrote progress agree =
         let P : Option OutFault → Type 0 = λ x. IsToldBy plan (told_of plan start (Happened from event ∷ notes)) x
@@ -158,7 +163,8 @@ step_on plan start from event notes was is old new over parting held mid holds b
             parting_so = ap (λ x. option_or x (telling.parting_by plan event from.history (told_of plan start
                 notes).progress (told_of plan start notes).answers)) g.parting_so ∙ sym w;
             wrote = lines_on None held mid holds before m now (lines_by plan event from.history (told_of plan
-                start notes).progress) (told_of plan start notes).lines g.wrote wrote;
+                start notes).progress (told_of plan start notes).answers) (told_of plan start notes).lines g.wrote
+                wrote;
           },
         ))
     by (Some cause) wanted w o p wrote progress agree =
@@ -167,8 +173,8 @@ step_on plan start from event notes was is old new over parting held mid holds b
         let Q : Option Parting → Type 0 = λ x. IsToldBy plan (told_of plan start (Happened from event ∷ notes)) (Some
         cause) x is new held holds before now in
         subst P (sym o) (subst Q (sym p) (lines_on (Some cause) held mid holds before m now (lines_by plan event
-        from.history (told_of plan
-        start notes).progress) (told_of plan start notes).lines g.wrote wrote))
+        from.history (told_of plan start notes).progress (told_of plan start notes).answers) (told_of plan start
+        notes).lines g.wrote wrote))
 
 -- what was said of an end, it was said of an equal one
 pub says_as : {over : Option OutFault} {parting wanted other : Option Parting} {held holds : Option (List ℕ)}
@@ -248,17 +254,20 @@ steps_as own plan config companion event history was is old new over parting hel
 
 -- an answer was added
 pub accepts_of : (own : Local) (reading : ℕ) (judged : Result Answer Landing) (answers : Answers) (answer : Answer)
-    (old new : Kept) (contradicts : Bool) → own ≡ old.local → judged ≡ Ok answer → Adds old new answer reading
+    (old new : Kept) (between : Option Between) → own ≡ old.local → judged ≡ Ok answer → Adds old new answer reading
     → StandsFor old answers
-    → ((added : Answers) → StandsFor new added → contradicts ≡ disagree new.local reading added)
-    → Accepts own reading judged answers new (cond contradicts (Some parting.Disagree) None)
-accepts_of own reading judged answers answer old new contradicts l j adds s value =
-    let P : Result Answer Landing → Type 0 = λ x. Accepts own reading x answers new (cond contradicts (Some
-    parting.Disagree) None) in
+    → ((added : Answers) → StandsFor new added → between ≡ between_in (agreed_of new.local reading added))
+    → ((added : Answers) → StandsFor new added → is_some between ≡ disagree new.local reading added)
+    → Accepts own reading judged answers new between
+accepts_of own reading judged answers answer old new between l j adds s value some =
+    let P : Result Answer Landing → Type 0 = λ x. Accepts own reading x answers new between in
     let same : new.local ≡ own = adds.local ∙ sym l in
+    let stands = adds.stands answers s in
     subst P (sym j) (record {
       local = same;
-      stands = adds.stands answers s;
-      parting_so = ap (λ x. cond x (Some parting.Disagree) None) (value (answer ∷ answers) (adds.stands answers s)
+      stands = stands;
+      between_so = value (answer ∷ answers) stands
+          ∙ ap (λ x. between_in (agreed_of x reading (answer ∷ answers))) same;
+      parting_so = ap (λ x. cond x (Some parting.Disagree) None) (some (answer ∷ answers) stands
           ∙ ap (λ x. disagree x reading (answer ∷ answers)) same);
     })

@@ -1,12 +1,17 @@
 -- How far a visit of a watch came, by what its observer was told.
-use Rattle.std.specs.Prelude.{ℕ, ◌+◌, ◌-◌, ◌^◌, min, List, Bool, true, false, not, ◌&&◌, ◌||◌, if◌then◌else◌, is_some}
+use Rattle.std.specs.Prelude.{ℕ, ◌+◌, ◌-◌, ◌^◌, min, List, ◌∷◌, Bool, true, false, not, ◌&&◌, ◌||◌, is_some}
+use Rattle.std.specs.Prelude.{if◌then◌else◌}
 use Rattle.std.specs.Prelude.{Option, Some, None, unwrap_or, Result, Ok, Err}
 use Rattle.std.specs.Result.{is_ok}
 use Rattle.css_model.specs.declared.Failure.{Failure}
 use Rattle.css_model.specs.declared.Kind.{Kind}
 use Rattle.css_model.specs.declared.Kind.TheVariants as kind
 use Rattle.css_model.specs.History.{History}
-use Rattle.css_model.specs.WallClock.{Answer}
+use Rattle.css_model.specs.WallClock.{Answer, Local}
+use Rattle.css_span.specs.Frontiers.{Answers}
+use Rattle.css_agree.specs.Told.{agreed_of}
+use Rattle.css_agree.specs.declared.agreed.Agreed.{Agreed}
+use Rattle.css_agree.specs.declared.agreed.Agreed.TheVariants as agreed
 use Rattle.css_client.specs.Landings.{judged_of}
 use Rattle.css_client.specs.declared.landing.Landing.{Landing}
 use Rattle.css_cii.specs.declared.state.State.{State}
@@ -20,6 +25,7 @@ use Rattle.css_drive.specs.CompanionReports.{is_due, report_at}
 use Rattle.css_drive.specs.Notes.{Event, Slept, Turn, Dialled, Asked, Landed, Heard, Closed}
 use Rattle.css_drive.specs.declared.session.Session.{Session}
 use Rattle.css_drive.specs.declared.session.Session.TheVariants as session
+use Rattle.css_watch_lines.specs.declared.known.Between.{Between}
 use Rattle.css_watch.specs.declared.plan.Plan.{Plan}
 use Rattle.css_watch.specs.declared.progress.Begun.{Begun}
 use Rattle.css_watch.specs.declared.progress.Progress.{Progress}
@@ -59,6 +65,7 @@ fresh begun = record {
   waiting = 0;
   refused = None;
   unread = None;
+  between = None;
 }
 
 -- ---- turns and reports
@@ -146,8 +153,23 @@ abbrev pub refusal_in : Result Answer Landing → Option Landing
 refusal_in (Ok answer) = None
 refusal_in (Err refusal) = Some refusal
 
-abbrev pub after_landing : Result Answer Landing → Progress → Progress
-after_landing judged progress = record progress { slept = false; waiting = 0; refused = refusal_in judged }
+-- the two answers of which it is told that they contradict each other
+abbrev pub between_in : Agreed → Option Between
+between_in (agreed.Disagree low high) = Some (record { above = low; below = high })
+between_in _ = None
+
+-- those of an answer that was just accepted, if one was, and of the answers before it
+abbrev pub between_at : Local → ℕ → Result Answer Landing → Answers → Option Between
+between_at own reading (Ok answer) answers = between_in (agreed_of own reading (answer ∷ answers))
+between_at own reading (Err refusal) answers = None
+
+abbrev pub after_landing : Result Answer Landing → Option Between → Progress → Progress
+after_landing judged between progress = record progress {
+  slept = false;
+  waiting = 0;
+  refused = refusal_in judged;
+  between = between;
+}
 
 abbrev pub after_end : Session → Progress → Progress
 after_end session.Cii progress = record progress { cii_open = None }
@@ -168,13 +190,15 @@ after_text session.Ts text history progress = progress
 abbrev pub judged : Plan → History → ℕ → List ℕ → Result Answer Landing
 judged plan history reading bytes = judged_of plan.run.companion.local history reading bytes
 
-abbrev pub progress_after : Plan → Event → History → Progress → Progress
-progress_after plan Slept history progress = after_sleep progress
-progress_after plan (Turn reading) history progress =
+-- after an event after a history, where these answers were accepted since the last sleep
+abbrev pub progress_after : Plan → Event → History → Progress → Answers → Progress
+progress_after plan Slept history progress answers = after_sleep progress
+progress_after plan (Turn reading) history progress answers =
     after_turn reading (report_due plan reading history progress.begun) progress
-progress_after plan (Dialled kind tried) history progress = after_dial kind tried progress
-progress_after plan (Asked reading) history progress = after_request progress
-progress_after plan (Landed reading bytes) history progress =
-    after_landing (judged plan history reading bytes) progress
-progress_after plan (Heard which text) history progress = after_text which text history progress
-progress_after plan (Closed which) history progress = after_end which progress
+progress_after plan (Dialled kind tried) history progress answers = after_dial kind tried progress
+progress_after plan (Asked reading) history progress answers = after_request progress
+progress_after plan (Landed reading bytes) history progress answers =
+    let judged-so = judged plan history reading bytes in
+    after_landing judged-so (between_at plan.run.companion.local reading judged-so answers) progress
+progress_after plan (Heard which text) history progress answers = after_text which text history progress
+progress_after plan (Closed which) history progress answers = after_end which progress

@@ -19,6 +19,9 @@ use Rattle.css_outside.specs.Limits.{is_over}
 use Rattle.css_span.specs.Frontiers.{Answers}
 use Rattle.css_span.specs.WallSpans.{wall_span}
 use Rattle.css_agree.specs.Disagreements.{disagree}
+use Rattle.css_agree.specs.Told.{agreed_of}
+use Rattle.css_agree.specs.declared.agreed.Agreed.{Agreed}
+use Rattle.css_agree.specs.declared.agreed.Agreed.TheVariants as agreed
 use Rattle.css_cii.specs.declared.state.State.{State}
 use Rattle.css_tsmsg.specs.Controls.{control_of}
 use Rattle.css_tsmsg.specs.declared.fault.TsFault.{TsFault}
@@ -110,37 +113,44 @@ detail_of selector _ state progress = []
 
 -- ---- the line of a report
 -- what a report with ticks tells
-abbrev pub known_by : Ticks → Interval → Answer → Timing → Ticking
-known_by ticks wall answer timing = record {
+abbrev pub known_by : Ticks → Interval → Interval → Answer → Timing → Ticking
+known_by ticks shared wall answer timing = record {
   ticks = ticks;
+  agreed = shared;
   wall = wall;
   error = answer.error;
   rate = timing.rate;
   speed = timing.speed;
 }
 
--- Ticks come with a span of the wall clock, with its answer and with a timing, never without.
-abbrev pub with_ticks : ℕ → ℕ → Ticks → Option Interval → Option Answer → Result Timing Cause → Line
-with_ticks number reading ticks (Some wall) (Some answer) (Ok timing) =
-    Known number reading (known_by ticks wall answer timing)
-with_ticks number reading ticks _ _ _ = Unknown number reading cause.NoAnswer []
+-- what all answers allow of the wall clock: the span that they share, which is all of it where they share none
+abbrev pub agreed_in : Agreed → Interval → Interval
+agreed_in (agreed.Within span) wall = span
+agreed_in _ wall = wall
 
--- the line of a report with these ticks, at a reading after a history
-abbrev pub ticks_line : Local → List ℕ → ℕ → ℕ → Ticks → History → Line
-ticks_line own selector number reading ticks history =
-    with_ticks number reading ticks (wall_span own reading (accepted_answers own history))
+-- Ticks come with a span of the wall clock, with its answer and with a timing, never without.
+abbrev pub with_ticks : ℕ → ℕ → Ticks → Agreed → Option Interval → Option Answer → Result Timing Cause → Line
+with_ticks number reading ticks said (Some wall) (Some answer) (Ok timing) =
+    Known number reading (known_by ticks (agreed_in said wall) wall answer timing)
+with_ticks number reading ticks said _ _ _ = Unknown number reading cause.NoAnswer []
+
+-- the line of a report with these ticks, at a reading after a history, where all answers say this together
+abbrev pub ticks_line : Local → List ℕ → ℕ → ℕ → Ticks → Agreed → History → Line
+ticks_line own selector number reading ticks said history =
+    with_ticks number reading ticks said (wall_span own reading (accepted_answers own history))
     (wall_answer own history reading) (timing_after selector history)
 
-abbrev pub said_of : Plan → ℕ → ℕ → Report → History → Progress → Line
-said_of plan number reading (report.None cause) history progress =
+abbrev pub said_of : Plan → ℕ → ℕ → Report → History → Progress → Agreed → Line
+said_of plan number reading (report.None cause) history progress said =
     Unknown number reading cause (detail_of plan.run.companion.selector cause (state_of history) progress)
-said_of plan number reading (report.Ticks lo hi) history progress =
-    ticks_line plan.run.companion.local plan.run.companion.selector number reading (record { lo = lo; hi = hi }) history
+said_of plan number reading (report.Ticks lo hi) history progress said =
+    ticks_line plan.run.companion.local plan.run.companion.selector number reading (record { lo = lo; hi = hi }) said
+    history
 
--- the line of the report with this number at a reading after a history
-abbrev pub report_line : Plan → ℕ → ℕ → History → Progress → Line
-report_line plan number reading history progress =
-    said_of plan number reading (report_at plan.run history reading) history progress
+-- the line of the report with this number at a reading after a history, where all answers say this together
+abbrev pub report_line : Plan → ℕ → ℕ → History → Progress → Agreed → Line
+report_line plan number reading history progress said =
+    said_of plan number reading (report_at plan.run history reading) history progress said
 
 -- ---- lines
 -- where the visit begins
@@ -151,16 +161,20 @@ visit_lines reading progress = if progress.entered then [] else Visit (told_numb
 abbrev pub slept_lines : ℕ → Progress → List Line
 slept_lines reading progress = if progress.slept then SleptAt reading ∷ [] else []
 
--- the report that is due, if one is
-abbrev pub report_lines : Plan → ℕ → History → Progress → List Line
-report_lines plan reading history progress =
-    if reports_now plan reading progress.begun
-    then report_line plan (counted progress.begun.reports) reading history progress ∷ []
-    else []
+-- the report that is made next, where these answers were accepted since the last sleep
+abbrev pub due_line : Plan → ℕ → History → Progress → Answers → Line
+due_line plan reading history progress answers =
+    report_line plan (counted progress.begun.reports) reading history progress
+    (agreed_of plan.run.companion.local reading answers)
 
-abbrev pub turn_lines : Plan → ℕ → History → Progress → List Line
-turn_lines plan reading history progress =
-    report_lines plan reading history progress ++ (slept_lines reading progress ++ visit_lines reading progress)
+-- the report that is due, if one is
+abbrev pub report_lines : Plan → ℕ → History → Progress → Answers → List Line
+report_lines plan reading history progress answers =
+    if reports_now plan reading progress.begun then due_line plan reading history progress answers ∷ [] else []
+
+abbrev pub turn_lines : Plan → ℕ → History → Progress → Answers → List Line
+turn_lines plan reading history progress answers =
+    report_lines plan reading history progress answers ++ (slept_lines reading progress ++ visit_lines reading progress)
 
 -- whether two dials are told alike
 abbrev pub is_same : Tried → Tried → Bool
@@ -204,17 +218,17 @@ abbrev pub text_lines : Session → List ℕ → History → List Line
 text_lines session.Cii text history = state_lines (told (next_number (texts_of history)) (state_of history) text)
 text_lines session.Ts text history = read_line text (control_of text) ∷ []
 
--- the lines of an event after a history, the newest first
-abbrev pub lines_by : Plan → Event → History → Progress → List Line
-lines_by plan Slept history progress = []
-lines_by plan (Turn reading) history progress = turn_lines plan reading history progress
-lines_by plan (Dialled kind tried) history progress = dial_lines kind tried progress
-lines_by plan (Asked reading) history progress = slept_lines reading progress
-lines_by plan (Landed reading bytes) history progress =
+-- the lines of an event after a history, the newest first, where these answers were accepted since the last sleep
+abbrev pub lines_by : Plan → Event → History → Progress → Answers → List Line
+lines_by plan Slept history progress answers = []
+lines_by plan (Turn reading) history progress answers = turn_lines plan reading history progress answers
+lines_by plan (Dialled kind tried) history progress answers = dial_lines kind tried progress
+lines_by plan (Asked reading) history progress answers = slept_lines reading progress
+lines_by plan (Landed reading bytes) history progress answers =
     landing_line plan.run.companion.local reading bytes (judged plan history reading bytes)
     ∷ slept_lines reading progress
-lines_by plan (Heard which text) history progress = text_lines which text history
-lines_by plan (Closed which) history progress = []
+lines_by plan (Heard which text) history progress answers = text_lines which text history
+lines_by plan (Closed which) history progress answers = []
 
 -- ---- the answers
 -- those that were accepted since the last sleep
@@ -271,9 +285,9 @@ told_first progress = record { progress = progress; answers = []; lines = []; pa
 
 abbrev pub told_by : Plan → Note → Told → Told
 told_by plan (Happened from event) was = record {
-  progress = progress_after plan event from.history was.progress;
+  progress = progress_after plan event from.history was.progress was.answers;
   answers = answers_after plan event from.history was.answers;
-  lines = lines_by plan event from.history was.progress ++ was.lines;
+  lines = lines_by plan event from.history was.progress was.answers ++ was.lines;
   parting = option_or was.parting (parting_by plan event from.history was.progress was.answers);
 }
 told_by plan (Reported from number report) was = was

@@ -19,7 +19,8 @@ use Rattle.css_drive.specs.Visits.{why}
 use Rattle.css_drive.specs.declared.driven.Driven.{Driven}
 use Rattle.css_drive.specs.declared.driven.Driven.TheVariants as driven
 use Rattle.css_watch_lines.specs.Fronts.{front_of}
-use Rattle.css_watch_lines.specs.Lines.{Line, line_text, Ended, EndedBy}
+use Rattle.css_watch_lines.specs.Lines.{Line, line_text, Ended, EndedBetween, EndedBy}
+use Rattle.css_watch_lines.specs.declared.known.Between.{Between}
 use Rattle.css_watch.specs.Progress.{fresh, nothing_begun, told_number, with_visit}
 use Rattle.css_watch.specs.Telling.{Told, told_of, text_of}
 use Rattle.css_watch.specs.declared.ending.Watched.{Watched}
@@ -77,14 +78,15 @@ pub record Hangs (before now : Option History) (was is : ℕ) (wanted : History)
 abbrev pub told_in : Plan → Begun → Visit → Told
 told_in plan begun visit = told_of plan (fresh (with_visit begun)) (noted plan.run visit.history)
 
--- a visit ended, perhaps with this CII text
-abbrev pub ended_with : ℕ → List ℕ → Option (List ℕ) → Line
-ended_with number words None = Ended number words
-ended_with number words (Some text) = EndedBy number words (front_of text)
+-- a visit ended, perhaps with two answers that contradict each other, or with this CII text
+abbrev pub ended_with : ℕ → List ℕ → Option Between → Option (List ℕ) → Line
+ended_with number words (Some between) unread = EndedBetween number words between
+ended_with number words None (Some text) = EndedBy number words (front_of text)
+ended_with number words None None = Ended number words
 
 -- the line of a visit's end
 abbrev pub end_line : Progress → List ℕ → Line
-end_line progress words = ended_with (told_number progress.begun.visits) words progress.unread
+end_line progress words = ended_with (told_number progress.begun.visits) words progress.between progress.unread
 
 abbrev pub end_text : Progress → Option (List ℕ) → List ℕ
 end_text progress None = []

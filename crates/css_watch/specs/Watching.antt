@@ -1,6 +1,6 @@
 -- How the variables of a visit's observer stand for what it was told.
 use Rattle.std.specs.Prelude.{◌≡◌, ℕ, List, [], ◌∷◌, Bool, true, false, Option, Some, None, Result, Ok, Err, ⊤, pos}
-use Rattle.std.specs.Prelude.{int_lt}
+use Rattle.std.specs.Prelude.{if◌then◌else◌, int_lt, is_some}
 use Rattle.std.specs.Io.KnownBytes.{Appends}
 use Rattle.css_model.specs.WallClock.{Answer, Local, scaled_width}
 use Rattle.css_client.specs.Landings.{with_judged}
@@ -15,10 +15,12 @@ use Rattle.css_model.specs.History.{History}
 use Rattle.css_drive.specs.Notes.{Event, Note, Happened, Reported}
 use Rattle.css_drive.specs.declared.config.DriveConfig.{DriveConfig}
 use Rattle.css_span.specs.Frontiers.{Answers}
-use Rattle.css_watch.specs.Progress.{fresh, after_sleep, progress_after}
+use Rattle.css_watch.specs.Progress.{fresh, after_sleep, between_at, progress_after}
 use Rattle.css_watch.specs.Telling as telling
 use Rattle.css_watch.specs.Telling.{Told, told_of, text_of, lines_by, answers_after, parting_at}
 use Rattle.css_drive.specs.declared.parting.Parting.{Parting}
+use Rattle.css_drive.specs.declared.parting.Parting.TheVariants as parting
+use Rattle.css_watch_lines.specs.declared.known.Between.{Between}
 use Rattle.css_watch.specs.declared.plan.Plan.{Plan}
 use Rattle.css_watch.specs.declared.progress.Begun.{Begun}
 use Rattle.css_watch.specs.declared.progress.Progress.{Progress}
@@ -71,12 +73,17 @@ abbrev pub IsPossibleAt : Local → ℕ → Result Answer Landing → Type 0
 IsPossibleAt own reading (Ok answer) = int_lt (scaled_width own answer reading) (pos 0) ≡ false
 IsPossibleAt own reading (Err refusal) = ⊤
 
--- the answer was added, and the visit ends where it contradicts the others
+-- the visit ends where two answers contradict each other
+abbrev pub parted_by : Option Between → Option Parting
+parted_by between = if is_some between then Some parting.Disagree else None
+
+-- the answer was added, and two are named where it contradicts the others: then the visit ends
 pub record Accepts (own : Local) (reading : ℕ) (judged : Result Answer Landing) (answers : Answers) (new : Kept)
-    (parting : Option Parting) : Type 0 where
+    (between : Option Between) : Type 0 where
   pub local : new.local ≡ own
   pub stands : StandsFor new (with_judged judged answers)
-  pub parting_so : parting ≡ parting_at own reading judged answers
+  pub between_so : between ≡ between_at own reading judged answers
+  pub parting_so : parted_by between ≡ parting_at own reading judged answers
 
 -- after a reading that may have told a sleep
 abbrev pub Wakes : Plan → Bool → Progress → Progress → Kept → Kept → Type 0
@@ -96,8 +103,8 @@ pub record Says (over : Option OutFault) (parting wanted : Option Parting) (held
 pub record IsStep (plan : Plan) (event : Event) (history : History) (answers : Answers) (was is : Progress) (new : Kept)
     (over : Option OutFault) (parting : Option Parting) (held holds : Option (List ℕ)) (before now : ℕ) : Type 0 where
   pub says : Says over parting (telling.parting_by plan event history was answers) held holds before now
-      (text_of (lines_by plan event history was))
-  pub progress_so : says.cause ≡ None → is ≡ progress_after plan event history was
+      (text_of (lines_by plan event history was answers))
+  pub progress_so : says.cause ≡ None → is ≡ progress_after plan event history was answers
   pub agree_so : says.cause ≡ None → IsOf plan new (answers_after plan event history answers)
 
 -- so it is, whatever answers the agreement was of

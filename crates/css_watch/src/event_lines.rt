@@ -16,11 +16,14 @@ ghost use Rattle.css_watch_lines.specs.Words.{failure_words as words_for};
 ghost use Rattle.css_watch.specs.Progress as spec;
 ghost use Rattle.css_watch.specs.Telling as telling;
 ghost use Rattle.css_watch.specs.Telling.{text_of};
+ghost use Rattle.css_watch.specs.Watching.{IsOf};
+ghost use Rattle.css_span.specs.Frontiers.{Answers};
 
 use crate::detail::detail;
 use crate::plan::Plan;
 use crate::progress::{Begun, Progress, Tried};
 use crate::progress_steps::{counted, reports_now, told_number};
+use css_agree::{Agree, Agreed};
 use css_client::Landing;
 use css_companion::{Cause, Companion, CompanionFault, Report, Timing};
 use css_drive::Session;
@@ -55,11 +58,12 @@ fn unknown_line(
 }
 
 /// What a report with ticks tells.
-fn known_by(ticks: &Ticks, wall: &Span, answer: &Answer, timing: &Timing) -> Known
-    ensures { result ≡ telling.known_by ticks.now wall.now answer.now timing.now }
+fn known_by(ticks: &Ticks, agreed: &Span, wall: &Span, answer: &Answer, timing: &Timing) -> Known
+    ensures { result ≡ telling.known_by ticks.now agreed.now wall.now answer.now timing.now }
 {
     Known {
         ticks: *ticks,
+        agreed: *agreed,
         wall: *wall,
         error: answer.error,
         rate: timing.rate,
@@ -67,20 +71,31 @@ fn known_by(ticks: &Ticks, wall: &Span, answer: &Answer, timing: &Timing) -> Kno
     }
 }
 
-/// The line of a report with these ticks.
+/// What all answers allow of the wall clock: the span that they share, or all of it where they share none.
+fn agreed_in(said: &Agreed, wall: &Span) -> Span
+    ensures { result ≡ telling.agreed_in said.now wall.now }
+{
+    match said {
+        Agreed::Within(span) => *span,
+        _ => *wall,
+    }
+}
+
+/// The line of a report with these ticks, where all answers say this together.
 fn ticks_line(
     alloc: Global,
     number: u64,
     reading: u64,
     companion: &Companion,
     ticks: Ticks,
+    said: &Agreed,
 ) -> Result<Text, Memory>
     requires few { number < 10 ^ 18 }
     requires range { reading < LIMIT }
     requires floor { companion.now.client.floor ≤ reading }
     ensures { (history : History) → StandsFor companion.now history → IfOk result
         (λ text. text ≡ text_of (telling.ticks_line (own_of companion.now) companion.now.setup.selector number reading
-        ticks history ∷ [])) }
+        ticks said.now history ∷ [])) }
 {
     let Some(wall) = companion.wall(reading) else {
         return cause_line(alloc, number, reading, &Cause::NoAnswer, "");
@@ -91,35 +106,60 @@ fn ticks_line(
     let Ok(timing) = companion.timing() else {
         return cause_line(alloc, number, reading, &Cause::NoAnswer, "");
     };
+    let agreed = agreed_in(said, &wall);
     known_line(
         alloc,
         number,
         reading,
-        &known_by(&ticks, &wall, &answer, &timing),
+        &known_by(&ticks, &agreed, &wall, &answer, &timing),
     )
 }
 
-/// The line of a report.
-pub(crate) fn report_line(
+/// The line of a report, where all answers say this together.
+fn report_line(
     alloc: Global,
     plan: &Plan,
     number: u64,
     reading: u64,
     companion: &Companion,
     progress: &Progress,
+    said: &Agreed,
 ) -> Result<Text, Memory>
     requires few { number < 10 ^ 18 }
     requires range { reading < LIMIT }
     requires floor { companion.now.client.floor ≤ reading }
     ensures { (history : History) → Knows plan.now.run.companion companion.now history → IfOk result
-        (λ text. text ≡ text_of (telling.report_line plan.now number reading history progress.now ∷ [])) }
+        (λ text. text ≡ text_of (telling.report_line plan.now number reading history progress.now said.now ∷ [])) }
 {
     match companion.report(reading) {
         Report::None(cause) => {
             unknown_line(alloc, plan, number, reading, &cause, companion, progress)
         }
-        Report::Ticks { lo, hi } => ticks_line(alloc, number, reading, companion, Ticks { lo, hi }),
+        Report::Ticks { lo, hi } => {
+            let ticks = Ticks { lo, hi };
+            ticks_line(alloc, number, reading, companion, ticks, said)
+        }
     }
+}
+
+/// The line of the report that is made next.
+fn due_line(
+    alloc: Global,
+    plan: &Plan,
+    reading: u64,
+    companion: &Companion,
+    agree: &Agree,
+    progress: &Progress,
+) -> Result<Text, Memory>
+    requires range { reading < LIMIT }
+    requires floor { companion.now.client.floor ≤ reading }
+    ensures { (history : History) → Knows plan.now.run.companion companion.now history
+        → (answers : Answers) → IsOf plan.now agree.now answers
+        → IfOk result (λ text. text ≡ text_of (telling.due_line plan.now reading history progress.now answers ∷ [])) }
+{
+    let number = counted(progress.begun.reports);
+    let said = agree.at(reading);
+    report_line(alloc, plan, number, reading, companion, progress, &said)
 }
 
 /// The line of a visit, in its first turn.
@@ -166,16 +206,17 @@ fn report_text(
     plan: &Plan,
     reading: u64,
     companion: &Companion,
+    agree: &Agree,
     progress: &Progress,
 ) -> Result<Text, Memory>
     requires range { reading < LIMIT }
     requires floor { companion.now.client.floor ≤ reading }
     ensures { (history : History) → Knows plan.now.run.companion companion.now history
-        → IfOk result (λ text. text ≡ text_of (telling.report_lines plan.now reading history progress.now)) }
+        → (answers : Answers) → IsOf plan.now agree.now answers
+        → IfOk result (λ text. text ≡ text_of (telling.report_lines plan.now reading history progress.now answers)) }
 {
     if reports_now(plan, reading, &progress.begun) {
-        let number = counted(progress.begun.reports);
-        return report_line(alloc, plan, number, reading, companion, progress);
+        return due_line(alloc, plan, reading, companion, agree, progress);
     }
     Ok(Text::new(alloc))
 }
@@ -186,17 +227,19 @@ pub(crate) fn turn_text(
     plan: &Plan,
     reading: u64,
     companion: &Companion,
+    agree: &Agree,
     progress: &Progress,
 ) -> Result<Text, Memory>
     requires range { reading < LIMIT }
     requires floor { companion.now.client.floor ≤ reading }
     ensures { (history : History) → Knows plan.now.run.companion companion.now history
-        → IfOk result (λ text. text ≡ text_of (telling.turn_lines plan.now reading history progress.now)) }
+        → (answers : Answers) → IsOf plan.now agree.now answers
+        → IfOk result (λ text. text ≡ text_of (telling.turn_lines plan.now reading history progress.now answers)) }
 {
     let mut text = visit_text(alloc, reading, progress)?;
     let slept = slept_text(alloc, reading, progress)?;
     text.push(slept.bytes())?;
-    let report = report_text(alloc, plan, reading, companion, progress)?;
+    let report = report_text(alloc, plan, reading, companion, agree, progress)?;
     text.push(report.bytes())?;
     Ok(text)
 }

@@ -1,6 +1,7 @@
 use css_client::Landing;
 use css_num::Text;
 use css_outside::Failure;
+use css_watch_lines::Between;
 
 /// What the visits of a watch did so far.
 #[derive(Clone, Copy)]
@@ -53,6 +54,8 @@ pub struct Progress {
     pub refused: Option<Landing>,
     /// The text of CSS-CII that was refused for what it says, if one was. It ends the visit.
     pub unread: Option<Text>,
+    /// The answers that contradict each other, if the one that landed last contradicts another. It ends the visit.
+    pub between: Option<Between>,
 }
 
 // One function drops it, so that its callers' proofs don't open each of its fields.
@@ -72,6 +75,7 @@ impl Drop for Progress {
             waiting: _,
             refused: _,
             unread: _,
+            between: _,
         } = self;
     }
 }

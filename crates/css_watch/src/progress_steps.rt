@@ -11,6 +11,7 @@ use css_companion::Report;
 use css_drive::Session;
 use css_outside::{Failure, Kind, Limit};
 use css_span::Answer;
+use css_watch_lines::Between;
 
 /// The greatest number that a line tells.
 const GREATEST: u64 = 999_999_999_999_999_999;
@@ -184,6 +185,7 @@ impl Progress {
             waiting: 0,
             refused: None,
             unread: None,
+            between: None,
         }
     }
 
@@ -246,9 +248,13 @@ impl Progress {
         self.waiting = counted(self.waiting);
     }
 
-    /// After a landing of what is told so.
-    pub(crate) fn after_landing(&mut self, judged: &Result<Answer, Landing>)
-        ensures { self.new ≡ spec.after_landing judged.now self.old }
+    /// After a landing of what is told so, and of an answer that may contradict another.
+    pub(crate) fn after_landing(
+        &mut self,
+        judged: &Result<Answer, Landing>,
+        between: Option<Between>,
+    )
+        ensures { self.new ≡ spec.after_landing judged.now between self.old }
     {
         self.slept = false;
         self.waiting = 0;
@@ -256,6 +262,7 @@ impl Progress {
             Ok(_) => None,
             Err(refusal) => Some(*refusal),
         };
+        self.between = between;
     }
 
     /// After the end of a session.

@@ -29,7 +29,7 @@ use css_companion::Companion;
 use css_drive::{Driven, Parting, Session, companion_of, drive};
 use css_num::{Memory, Text};
 use css_outside::{OutFault, Outside, Sink};
-use css_watch_lines::{end_line, front, refused_end_line};
+use css_watch_lines::{apart_end_line, end_line, front, refused_end_line};
 use std::alloc::Global;
 use std::mem::replace;
 
@@ -171,6 +171,9 @@ fn ended_line(alloc: Global, progress: &Progress, why: &str) -> Result<Text, Mem
     ensures { IfOk result (λ text. text ≡ line_text (visits.end_line progress.now why.now)) }
 {
     let number = told_number(progress.begun.visits);
+    if let Some(between) = &progress.between {
+        return apart_end_line(alloc, number, why, between);
+    }
     let Some(text) = &progress.unread else {
         return end_line(alloc, number, why);
     };

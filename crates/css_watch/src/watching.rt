@@ -1,6 +1,6 @@
 //! The observer that tells what happens in a visit.
 ghost use Rattle.std.specs.Prelude.{◌≡◌, ◌≤◌, ◌<◌, ◌++◌, ℕ, List, [], ◌∷◌, Option, None, Some, IfOk, MatchOption};
-ghost use Rattle.std.specs.Prelude.{OnOk, OnErr, length, take};
+ghost use Rattle.std.specs.Prelude.{OnOk, OnErr, is_some, length, take};
 ghost use Rattle.std.specs.Io.KnownBytes.{Appends};
 ghost use Rattle.css_outside.specs.Bytes.{AppendsPrefix};
 ghost use Rattle.css_outside.specs.Faults.{CountsCall};
@@ -10,9 +10,11 @@ ghost use Rattle.css_watch.specs.Progress as progress;
 ghost use Rattle.css_watch.specs.Telling as telling;
 ghost use Rattle.css_watch.specs.Telling.{text_of};
 ghost use Rattle.css_watch.specs.Watching.{Writes, Says, IsFresh, IsFreshOf, IsOf, Steps, Wakes, over_by};
-ghost use Rattle.css_watch.specs.Watching.{parting_by, Accepts, IsPossibleAt};
+ghost use Rattle.css_watch.specs.Watching.{parted_by, parting_by, Accepts, IsPossibleAt};
 ghost use Rattle.css_model.specs.History.{History};
+ghost use Rattle.css_agree.specs.Disagreements.{disagree};
 ghost use Rattle.css_agree.specs.Keeping.{StandsFor};
+ghost use Rattle.css_agree.specs.Told.{agreed_of};
 ghost use Rattle.css_drive.specs.CompanionStanding.{Knows};
 ghost use Rattle.css_span.specs.Frontiers.{Answers};
 
@@ -22,13 +24,14 @@ use crate::event_lines::{
 use crate::plan::Plan;
 use crate::progress::{Begun, Progress};
 use crate::progress_steps::{is_over, next_due};
-use css_agree::{Agree, AgreeFault};
+use css_agree::{Agree, AgreeFault, Agreed};
 use css_client::Landing;
 use css_companion::{Companion, Report};
 use css_drive::{Observes, Parting, Session};
 use css_num::{Memory, Text};
 use css_outside::{Clocked, Failure, Kind, OutFault, Sink, write_all};
 use css_span::Answer;
+use css_watch_lines::Between;
 use std::alloc::Global;
 
 /// Writes the lines of a visit, and ends the visit where the television does.
@@ -158,12 +161,30 @@ fn wake(alloc: Global, plan: &Plan, slept: bool, progress: &mut Progress, agree:
     }
 }
 
-/// Adds an answer to those that were accepted, and says whether it contradicts them.
+/// The two answers that contradict each other at a reading, if two do.
+fn apart(agree: &Agree, reading: u64) -> Option<Between>
+    requires { reading < LIMIT }
+    ensures value { (answers : Answers) → StandsFor agree.now answers
+        → result ≡ progress.between_in (agreed_of agree.now.local reading answers) }
+    ensures some { (answers : Answers) → StandsFor agree.now answers
+        → is_some result ≡ disagree agree.now.local reading answers }
+{
+    match agree.at(reading) {
+        Agreed::Disagree { low, high } => Some(Between {
+            above: low,
+            below: high,
+        }),
+        Agreed::Within(_) => None,
+        Agreed::Nothing => None,
+    }
+}
+
+/// Adds an answer to those that were accepted, and names two that contradict each other then, if two do.
 fn accept(
     agree: &mut Agree,
     judged: &Result<Answer, Landing>,
     reading: u64,
-) -> Result<Option<Parting>, Memory>
+) -> Result<Option<Between>, Memory>
     requires { reading < LIMIT }
     ensures { (answers : Answers) → StandsFor agree.old answers → IsPossibleAt agree.old.local reading judged.now
         → IfOk result (Accepts agree.old.local reading judged.now answers agree.new) }
@@ -172,15 +193,21 @@ fn accept(
         return Ok(None);
     };
     match agree.add(*answer, reading) {
-        Ok(()) => {}
-        Err(AgreeFault::Memory) => return Err(Memory),
+        Ok(()) => Ok(apart(agree, reading)),
+        Err(AgreeFault::Memory) => Err(Memory),
         // What is judged possible is possible.
-        Err(AgreeFault::Impossible(_)) => return Ok(None),
+        Err(AgreeFault::Impossible(_)) => Ok(None),
     }
-    if agree.contradicts(reading) {
-        return Ok(Some(Parting::Disagree));
+}
+
+/// Whether the visit ends, where two answers contradict each other.
+fn parted(between: &Option<Between>) -> Option<Parting>
+    ensures { result ≡ parted_by between.now }
+{
+    if between.is_some() {
+        return Some(Parting::Disagree);
     }
-    Ok(None)
+    None
 }
 
 impl<'a, K: Sink> Watching<'a, K> {
@@ -224,7 +251,14 @@ impl<'a, K: Sink> Watching<'a, K> {
             self.old.agree.now self.new.agree.now self.new.over self.new.parting (K.holds self.old.sink.now)
             (K.holds self.new.sink.now) (K.faults self.old.sink.now) (K.faults self.new.sink.now) }
     {
-        let text = turn_text(self.alloc, self.plan, reading, companion, self.progress);
+        let text = turn_text(
+            self.alloc,
+            self.plan,
+            reading,
+            companion,
+            self.agree,
+            self.progress,
+        );
         let late = late(self.plan, reading, &self.progress.begun);
         let parting = late.or(closed_before(self.plan, reading, self.progress));
         let due = report_due(self.plan, reading, &self.progress.begun, companion);
@@ -246,9 +280,11 @@ impl<'a, K: Sink> Watching<'a, K> {
         let judged = companion.judge(bytes, reading);
         let local = &self.plan.run.companion.local;
         let text = landing_text(self.alloc, local, reading, bytes, &judged, self.progress);
-        self.progress.after_landing(&judged);
         match accept(self.agree, &judged, reading) {
-            Ok(parting) => self.say(text, parting),
+            Ok(between) => {
+                self.progress.after_landing(&judged, between);
+                self.say(text, parted(&between));
+            }
             Err(Memory) => self.fail(),
         }
     }

@@ -2,6 +2,7 @@
 use Rattle.std.proofs.Common.{ℤ, pos, negsuc, None, Some, refl, arith}
 use Rattle.json.proofs.Printed.Utf8.{IsUtf8-are_ascii}
 use Rattle.serde_json.specs.Data.{object, no_members}
+use Rattle.css_model.specs.WallClock.{Answer, IsAnswer}
 use Rattle.css_num.specs.Spans.{Interval}
 use Rattle.css_num.specs.declared.control.Control.{Control}
 use Rattle.css_num.specs.declared.control.Control.TheVariants.{Available, Unavailable}
@@ -15,15 +16,15 @@ use Rattle.css_cii.proofs.Utf8.{full-utf8}
 use Rattle.css_tsmsg.specs.Controls.{IsInRange}
 use Rattle.css_tsmsg.proofs.ReadBack.{control_ordered, control_utf8}
 use Rattle.css_watch_lines.specs.Lines.{Line, Visit, Dial, StateTold, ControlTold, Unread, Answered, Refused}
-use Rattle.css_watch_lines.specs.Lines.{SleptAt, Known, Unknown, Ended, EndedBy, line_members, line_data, span_data}
-use Rattle.css_watch_lines.specs.Lines.{ticks_data, told_control}
+use Rattle.css_watch_lines.specs.Lines.{SleptAt, Known, Unknown, Ended, EndedBy, EndedBetween, line_members}
+use Rattle.css_watch_lines.specs.Lines.{exchange_data, line_data, span_data, ticks_data, told_control}
 use Rattle.css_watch_lines.specs.declared.known.Ticks.{Ticks}
 use Rattle.css_watch_lines.specs.Lines.{signed, IsReadBack}
 use Rattle.css_watch_lines.specs.Ranges.{IsTellable, EndsFit, TicksFit}
 use Rattle.css_watch_lines.specs.Writable.{AreWritable}
 use Rattle.css_watch_lines.proofs.Spelling.{signed_utf8, reading_utf8, service_utf8, failure_utf8, landing_utf8}
 use Rattle.css_watch_lines.proofs.Spelling.{fault_utf8, cause_utf8, first_utf8}
-use Rattle.css_watch_lines.proofs.Writable.{signed_writable, state_writable, control_writable}
+use Rattle.css_watch_lines.proofs.Writable.{between_writable, signed_writable, state_writable, control_writable}
 
 -- ---- the members of a line can stand in it
 line_writable : (line : Line) → IsTellable line → AreWritable (line_members line)
@@ -51,14 +52,17 @@ line_writable (Known count reading told) h =
     let rate = h.1.rate in
     record {
       plain = (
-        omega (arith, h.1.error),
+        (tt, (tt, tt)),
         (
-          tt,
+          omega (arith, h.1.error),
           (
-            h.0.few,
+            tt,
             (
-              (omega (arith, rate.second_small), (omega (arith, rate.tick_small), tt)),
-              (tt, (speed.plain, ((tt, (tt, tt)), ((tt, (tt, tt)), tt)))),
+              h.0.few,
+              (
+                (omega (arith, rate.second_small), (omega (arith, rate.tick_small), tt)),
+                (tt, (speed.plain, ((tt, (tt, tt)), ((tt, (tt, tt)), tt)))),
+              ),
             ),
           ),
         ),
@@ -71,6 +75,9 @@ line_writable (Unknown count reading cause detail) h = record {
 }
 line_writable (Ended count why) h = record { plain = (tt, (h.0, (tt, tt))); shallow = omega arith }
 line_writable (EndedBy count why text) h = record { plain = (tt, (h.0, (tt, (tt, tt)))); shallow = omega arith }
+line_writable (EndedBetween count why between) h =
+    let told = between_writable between h.2 h.3 in
+    record { plain = (told.plain, (tt, (h.0, (tt, tt)))); shallow = omega (arith, told.shallow) }
 
 -- ---- the texts in a line are UTF-8
 -- the ends of a span
@@ -80,6 +87,30 @@ span_utf8 span h = (signed_utf8 span.lo h.lo, (signed_utf8 span.hi h.hi, tt))
 -- the ticks of a report
 ticks_utf8 : (ticks : Ticks) → TicksFit ticks → HasUtf8 (ticks_data ticks)
 ticks_utf8 ticks h = (signed_utf8 ticks.lo h.lo, (signed_utf8 ticks.hi h.hi, tt))
+
+-- an answer
+exchange_utf8 : (answer : Answer) → IsAnswer answer → HasUtf8 (exchange_data answer)
+exchange_utf8 answer ranges = (
+  IsUtf8-are_ascii _ refl,
+  tt,
+  (
+    IsUtf8-are_ascii _ refl,
+    reading_utf8 answer.t4 (omega (arith, ranges.t4)),
+    (
+      IsUtf8-are_ascii _ refl,
+      reading_utf8 answer.t1 (omega (arith, ranges.t1)),
+      (
+        IsUtf8-are_ascii _ refl,
+        reading_utf8 answer.precision (omega (arith, ranges.precision)),
+        (
+          IsUtf8-are_ascii _ refl,
+          reading_utf8 answer.t2 (omega (arith, ranges.t2)),
+          (IsUtf8-are_ascii _ refl, reading_utf8 answer.t3 (omega (arith, ranges.t3)), tt),
+        ),
+      ),
+    ),
+  ),
+)
 
 -- a state, all of which is said
 state_utf8 : (state : State) → IsUtf8State state → HasUtf8 (object (change_members (full_change state)))
@@ -196,26 +227,30 @@ line_utf8 (SleptAt reading) h = (
 )
 line_utf8 (Known count reading told) h = (
   IsUtf8-are_ascii _ refl,
-  tt,
+  span_utf8 told.agreed h.1.agreed,
   (
     IsUtf8-are_ascii _ refl,
-    IsUtf8-are_ascii _ refl,
+    tt,
     (
       IsUtf8-are_ascii _ refl,
-      tt,
+      IsUtf8-are_ascii _ refl,
       (
         IsUtf8-are_ascii _ refl,
-        (IsUtf8-are_ascii _ refl, tt, (IsUtf8-are_ascii _ refl, tt, tt)),
+        tt,
         (
           IsUtf8-are_ascii _ refl,
-          reading_utf8 reading h.0.early,
+          (IsUtf8-are_ascii _ refl, tt, (IsUtf8-are_ascii _ refl, tt, tt)),
           (
             IsUtf8-are_ascii _ refl,
-            tt,
+            reading_utf8 reading h.0.early,
             (
               IsUtf8-are_ascii _ refl,
-              ticks_utf8 told.ticks h.1.ticks,
-              (IsUtf8-are_ascii _ refl, span_utf8 told.wall h.1.wall, tt),
+              tt,
+              (
+                IsUtf8-are_ascii _ refl,
+                ticks_utf8 told.ticks h.1.ticks,
+                (IsUtf8-are_ascii _ refl, span_utf8 told.wall h.1.wall, tt),
+              ),
             ),
           ),
         ),
@@ -258,6 +293,19 @@ line_utf8 (EndedBy count why text) h = (
     ),
   ),
 )
+line_utf8 (EndedBetween count why between) h = (
+  IsUtf8-are_ascii _ refl,
+  (exchange_utf8 between.above h.2, (exchange_utf8 between.below h.3, tt)),
+  (
+    IsUtf8-are_ascii _ refl,
+    IsUtf8-are_ascii _ refl,
+    (
+      IsUtf8-are_ascii _ refl,
+      tt,
+      (IsUtf8-are_ascii _ refl, h.1, tt),
+    ),
+  ),
+)
 
 -- ---- the names in a line are in alphabetical order
 -- a number has none, and is unsigned exactly where it isn't below zero
@@ -269,6 +317,30 @@ signed_ordered (negsuc n) = tt
 told_ordered : (control : Control) → IsOrdered (told_control control)
 told_ordered (Available content wall speed) = control_ordered (Available content wall speed)
 told_ordered Unavailable = (tt, tt, ((refl, tt), tt, ((refl, (refl, tt)), tt, tt)))
+
+-- those of an answer are
+exchange_ordered : (answer : Answer) → IsOrdered (exchange_data answer)
+exchange_ordered answer = (
+  tt,
+  tt,
+  (
+    (refl, tt),
+    tt,
+    (
+      (refl, (refl, tt)),
+      tt,
+      (
+        (refl, (refl, (refl, tt))),
+        tt,
+        (
+          (refl, (refl, (refl, (refl, tt)))),
+          tt,
+          ((refl, (refl, (refl, (refl, (refl, tt))))), tt, tt),
+        ),
+      ),
+    ),
+  ),
+)
 
 -- all of them
 line_ordered : (line : Line) → AreOrderedAfter no_members (line_members line)
@@ -317,7 +389,7 @@ line_ordered (Refused landing bytes landed) =
 line_ordered (SleptAt reading) = (tt, tt, ((refl, tt), tt, tt))
 line_ordered (Known count reading told) = (
   tt,
-  tt,
+  (tt, (tt, tt)),
   (
     (refl, tt),
     tt,
@@ -326,17 +398,21 @@ line_ordered (Known count reading told) = (
       tt,
       (
         (refl, (refl, (refl, tt))),
-        (tt, tt, ((refl, tt), tt, tt)),
+        tt,
         (
           (refl, (refl, (refl, (refl, tt)))),
-          tt,
+          (tt, tt, ((refl, tt), tt, tt)),
           (
             (refl, (refl, (refl, (refl, (refl, tt))))),
-            signed_ordered told.speed,
+            tt,
             (
               (refl, (refl, (refl, (refl, (refl, (refl, tt)))))),
-              (tt, (tt, tt)),
-              ((refl, (refl, (refl, (refl, (refl, (refl, (refl, tt))))))), (tt, (tt, tt)), tt),
+              signed_ordered told.speed,
+              (
+                (refl, (refl, (refl, (refl, (refl, (refl, (refl, tt))))))),
+                (tt, (tt, tt)),
+                ((refl, (refl, (refl, (refl, (refl, (refl, (refl, (refl, tt)))))))), (tt, (tt, tt)), tt),
+              ),
             ),
           ),
         ),
@@ -360,6 +436,11 @@ line_ordered (Unknown count reading cause detail) = (
 line_ordered (Ended count why) = (tt, tt, ((refl, tt), tt, ((refl, (refl, tt)), tt, tt)))
 line_ordered (EndedBy count why text) =
     (tt, tt, ((refl, tt), tt, ((refl, (refl, tt)), tt, ((refl, (refl, (refl, tt))), tt, tt))))
+line_ordered (EndedBetween count why between) = (
+  tt,
+  (exchange_ordered between.above, (exchange_ordered between.below, tt)),
+  ((refl, tt), tt, ((refl, (refl, tt)), tt, ((refl, (refl, (refl, tt))), tt, tt))),
+)
 
 -- ---- so a line's text is read back
 pub line_reads : (line : Line) → IsTellable line → IsReadBack (line_data line)

@@ -17,7 +17,9 @@ use Rattle.css_cii.specs.declared.state.State.{State}
 use Rattle.css_cii.proofs.RoundTrips.{plain_change, low_change}
 use Rattle.css_tsmsg.specs.Controls.{IsInRange}
 use Rattle.css_tsmsg.proofs.RoundTrips.{control_plain}
-use Rattle.css_watch_lines.specs.Lines.{whole, signed, span_data, ticks_data, told_control}
+use Rattle.css_model.specs.WallClock.{IsAnswer}
+use Rattle.css_watch_lines.specs.Lines.{between_data, whole, signed, span_data, ticks_data, told_control}
+use Rattle.css_watch_lines.specs.declared.known.Between.{Between}
 use Rattle.css_watch_lines.specs.declared.known.Ticks.{Ticks}
 use Rattle.css_watch_lines.specs.Writable.{IsWritable, AreWritable}
 
@@ -81,6 +83,17 @@ span_writable span = record { plain = (tt, (tt, tt)); shallow = omega arith }
 -- the ticks of a report
 pub ticks_writable : (ticks : Ticks) → IsWritable (ticks_data ticks)
 ticks_writable ticks = record { plain = (tt, (tt, tt)); shallow = omega arith }
+
+-- two answers nest two levels deep
+pub between_writable : (between : Between) → IsAnswer between.above → IsAnswer between.below
+    → IsWritable (between_data between)
+between_writable between above below = record {
+  plain = (
+    (omega (arith, above.error), (tt, (tt, (tt, (tt, (tt, tt)))))),
+    ((omega (arith, below.error), (tt, (tt, (tt, (tt, (tt, tt)))))), tt),
+  );
+  shallow = omega arith;
+}
 
 -- a tick rate
 pub rate_writable : (rate : TickRate) → IsTickRate rate → IsWritable (rate_data rate)

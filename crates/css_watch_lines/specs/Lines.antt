@@ -21,6 +21,7 @@ use Rattle.css_client.specs.declared.landing.Landing.{Landing}
 use Rattle.css_companion.specs.Printed.{cause_words, fault_words}
 use Rattle.css_companion.specs.declared.report.Cause.{Cause}
 use Rattle.css_watch_lines.specs.Words.{service_words, failure_words, landing_words, first_digits}
+use Rattle.css_watch_lines.specs.declared.known.Between.{Between}
 use Rattle.css_watch_lines.specs.declared.known.Known.{Known as Ticking}
 use Rattle.css_watch_lines.specs.declared.known.Ticks.{Ticks}
 
@@ -50,6 +51,8 @@ pub data Line : Type 0 where
   Ended : ℕ → List ℕ → Line
   -- a visit ended with a CII text: its number, why, and the front of the text
   EndedBy : ℕ → List ℕ → List ℕ → Line
+  -- a visit ended with two answers that contradict each other: its number, why, and the answers
+  EndedBetween : ℕ → List ℕ → Between → Line
 
 -- ---- values
 -- a number of any size, as the text of its digits
@@ -75,6 +78,24 @@ ticks_data ticks = array (item (digits ticks.lo) (item (digits ticks.hi) no_item
 -- the two ends of a span
 abbrev pub span_data : Interval → Data
 span_data span = array (item (digits span.lo) (item (digits span.hi) no_items))
+
+-- an answer: its exchange, and what it declares
+abbrev pub exchange_members : Answer → Members
+exchange_members answer =
+    member (codes "error") (whole answer.error)
+    (member (codes "landed") (time answer.t4)
+    (member (codes "originate") (time answer.t1)
+    (member (codes "precision") (time answer.precision)
+    (member (codes "receive") (time answer.t2)
+    (member (codes "transmit") (time answer.t3) no_members)))))
+
+abbrev pub exchange_data : Answer → Data
+exchange_data answer = object (exchange_members answer)
+
+-- two answers: the one above, and the one below
+abbrev pub between_data : Between → Data
+between_data between =
+    array (item (exchange_data between.above) (item (exchange_data between.below) no_items))
 
 -- ---- objects
 -- a control timestamp, whose members are all null where the timeline isn't available
@@ -143,14 +164,15 @@ line_members (SleptAt reading) =
     member (codes "event") (string (codes "slept"))
     (member (codes "reading") (time reading) no_members)
 line_members (Known count reading told) =
-    member (codes "error") (whole told.error)
+    member (codes "agreed") (span_data told.agreed)
+    (member (codes "error") (whole told.error)
     (member (codes "event") (string (codes "report"))
     (member (codes "number") (whole count)
     (member (codes "rate") (rate_data told.rate)
     (member (codes "reading") (time reading)
     (member (codes "speed") (signed told.speed)
     (member (codes "ticks") (ticks_data told.ticks)
-    (member (codes "wall") (span_data told.wall) no_members)))))))
+    (member (codes "wall") (span_data told.wall) no_members))))))))
 line_members (Unknown count reading cause detail) =
     member (codes "cause") (string (cause_words cause))
     (member (codes "detail") (string detail)
@@ -165,6 +187,11 @@ line_members (EndedBy count why text) =
     member (codes "event") (string (codes "end"))
     (member (codes "number") (whole count)
     (member (codes "text") (string text)
+    (member (codes "why") (string why) no_members)))
+line_members (EndedBetween count why between) =
+    member (codes "between") (between_data between)
+    (member (codes "event") (string (codes "end"))
+    (member (codes "number") (whole count)
     (member (codes "why") (string why) no_members)))
 
 -- the value of a line

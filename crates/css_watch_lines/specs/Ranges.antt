@@ -9,7 +9,7 @@ use Rattle.css_model.specs.declared.Failure.TheVariants as failure
 use Rattle.css_cii.specs.Texts.{EachIn, IsUtf8State, RatesAreInRange}
 use Rattle.css_tsmsg.specs.Controls.{IsInRange}
 use Rattle.css_watch_lines.specs.Lines.{Line, Visit, Dial, StateTold, ControlTold, Unread, Answered, Refused}
-use Rattle.css_watch_lines.specs.Lines.{SleptAt, Known, Unknown, Ended, EndedBy}
+use Rattle.css_watch_lines.specs.Lines.{SleptAt, Known, Unknown, Ended, EndedBy, EndedBetween}
 use Rattle.css_watch_lines.specs.declared.known.Known.{Known as Ticking}
 use Rattle.css_watch_lines.specs.declared.known.Ticks.{Ticks}
 
@@ -36,6 +36,7 @@ StatusFits _ = ⊤
 -- what a report with ticks tells
 pub record IsTicking (told : Ticking) : Type 0 where
   pub ticks : TicksFit told.ticks
+  pub agreed : EndsFit told.agreed
   pub wall : EndsFit told.wall
   pub error : told.error < 2 ^ 32
   pub rate : IsTickRate told.rate
@@ -56,3 +57,5 @@ IsTellable (Known count reading told) = AreCounted count reading × IsTicking to
 IsTellable (Unknown count reading cause detail) = AreCounted count reading × IsUtf8 detail
 IsTellable (Ended count why) = (count < 10 ^ 18) × IsUtf8 why
 IsTellable (EndedBy count why text) = (count < 10 ^ 18) × IsUtf8 why × IsUtf8 text
+IsTellable (EndedBetween count why between) =
+    (count < 10 ^ 18) × IsUtf8 why × IsAnswer between.above × IsAnswer between.below

@@ -1,4 +1,5 @@
 use css_num::{Rate, Span};
+use css_span::Answer;
 
 /// The ticks of a report: one from `lo` to `hi`, both included.
 #[derive(Clone, Copy, Debug, PartialEq, Eq)]
@@ -12,7 +13,10 @@ pub struct Ticks {
 pub struct Known {
     /// The ticks of which the television may be presenting one.
     pub ticks: Ticks,
-    /// The span of the television's wall clock at the report's reading, in nanoseconds.
+    /// The two ends of the television's wall clock that all answers since the last sleep allow together at the report's
+    /// reading, in nanoseconds. They lie within `wall`.
+    pub agreed: Span,
+    /// The span of the television's wall clock at the report's reading, in nanoseconds, by the narrowest answer alone.
     pub wall: Span,
     /// The greatest error of the television's oscillator, in 1/256 ppm, as the answer behind the span declares it.
     pub error: u32,
@@ -20,4 +24,11 @@ pub struct Known {
     pub rate: Rate,
     /// The timeline goes at so many times its rate: 0 is a pause.
     pub speed: i32,
+}
+
+/// Two answers that contradict each other: the span of the one lies wholly above that of the other.
+#[derive(Clone, Copy, Debug, PartialEq, Eq)]
+pub struct Between {
+    pub above: Answer,
+    pub below: Answer,
 }

@@ -13,10 +13,10 @@ mod members;
 mod words;
 
 pub use fronts::front;
-pub use known::{Known, Ticks};
+pub use known::{Between, Known, Ticks};
 pub use lines::{
-    answer_line, cause_line, control_line, dial_line, end_line, known_line, refused_end_line,
-    refused_line, slept_line, state_line, unread_line, visit_line,
+    answer_line, apart_end_line, cause_line, control_line, dial_line, end_line, known_line,
+    refused_end_line, refused_line, slept_line, state_line, unread_line, visit_line,
 };
 pub use members::words_of;
 pub use words::{failure_words, landing_words};

@@ -5,7 +5,7 @@ ghost use Rattle.css_tsmsg.specs.Controls.{IsInRange};
 ghost use Rattle.css_watch_lines.specs.Lines as lines;
 ghost use Rattle.css_watch_lines.specs.Writable.{AreWritable, told_in};
 
-use crate::known::Known;
+use crate::known::{Between, Known};
 use crate::members::Members;
 use crate::words::{failure_words, first_digits, landing_words, service_words};
 use css_cii::{State, state_value};
@@ -200,6 +200,7 @@ pub fn known_line(alloc: Global, number: u64, reading: u64, known: &Known) -> Re
     ensures read_back { OnOk result (lines.IsReadBack (lines.line_data (lines.Known number reading known.now))) }
 {
     report_members(alloc, number, reading)?
+        .with_span("agreed", known.agreed)?
         .with_small("error", known.error)?
         .with_rate("rate", known.rate)?
         .with_speed("speed", known.speed)?
@@ -250,6 +251,26 @@ pub fn refused_end_line(alloc: Global, number: u64, why: &str, text: &str) -> Re
     Members::of_event(alloc, "end")?
         .with_number("number", number)?
         .with_words("text", text)?
+        .with_words("why", why)?
+        .line()
+}
+
+/// The line where two answers that contradict each other end a visit: `event` is `end`. `why` says what ended it.
+pub fn apart_end_line(
+    alloc: Global,
+    number: u64,
+    why: &str,
+    between: &Between,
+) -> Result<Text, Memory>
+    requires { number < 10 ^ 18 }
+    ensures text { IfOk result (λ text. text
+        ≡ lines.line_text (lines.EndedBetween number why.now between.now)) }
+    ensures read_back { OnOk result
+        (lines.IsReadBack (lines.line_data (lines.EndedBetween number why.now between.now))) }
+{
+    Members::of_event(alloc, "end")?
+        .with_between("between", between)?
+        .with_number("number", number)?
         .with_words("why", why)?
         .line()
 }

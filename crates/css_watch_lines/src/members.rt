@@ -3,12 +3,14 @@ ghost use Rattle.std.specs.Str.{IsUtf8};
 ghost use Rattle.serde_json.specs.Data.{string, object, member, no_members, put};
 ghost use Rattle.serde_json.specs.View.{view};
 ghost use Rattle.css_cii.specs.Texts.{rate_data};
+ghost use Rattle.css_model.specs.WallClock.{IsAnswer};
 ghost use Rattle.css_watch_lines.specs.Lines as lines;
 ghost use Rattle.css_watch_lines.specs.Writable.{IsWritable, AreWritable, told_in};
 
-use crate::known::Ticks;
+use crate::known::{Between, Ticks};
 use css_cii::rate_value;
 use css_num::{Memory, Rate, Span, Text};
+use css_span::Answer;
 use css_text::{Map, write_value};
 use serde_json::{Value, json};
 use std::alloc::{AllocError, Global};
@@ -62,6 +64,45 @@ fn ticks_value(alloc: Global, ticks: &Ticks) -> Result<Value, AllocError>
 pub(crate) struct Members {
     alloc: Global,
     map: Map,
+}
+
+/// The members of an answer: those of its exchange, and what it declares.
+fn exchange_members(alloc: Global, answer: &Answer) -> Result<Members, Memory>
+    ensures value { IfOk result (λ members. told_in members ≡ lines.exchange_members answer.now) }
+{
+    let none = Members {
+        alloc,
+        map: Map::new(alloc),
+    };
+    none.with_small("error", answer.error)?
+        .with_time("landed", answer.t4)?
+        .with_time("originate", answer.t1)?
+        .with_time("precision", answer.precision)?
+        .with_time("receive", answer.t2)?
+        .with_time("transmit", answer.t3)
+}
+
+/// The value of an answer.
+fn exchange_value(alloc: Global, answer: &Answer) -> Result<Value, Memory>
+    ensures value { IfOk result (λ value. view value ≡ lines.exchange_data answer.now) }
+    ensures in_range { IsAnswer answer.now }
+{
+    // Reading a field shows proofs the ranges of all.
+    let _error = answer.error;
+    let Members { alloc: _, map } = exchange_members(alloc, answer)?;
+    Ok(Value::Object(map))
+}
+
+/// The value of two answers: the upper one first.
+fn between_value(alloc: Global, between: &Between) -> Result<Value, Memory>
+    ensures value { IfOk result (λ value. view value ≡ lines.between_data between.now) }
+    ensures above { OnOk result (IsAnswer between.now.above) }
+    ensures below { OnOk result (IsAnswer between.now.below) }
+{
+    let above = exchange_value(alloc, &between.above)?;
+    let below = exchange_value(alloc, &between.below)?;
+    let both = json!(in alloc; [above, below])?;
+    Ok(both)
 }
 
 impl Members {
@@ -177,6 +218,17 @@ impl Members {
         ensures writable { IfOk result (λ members. AreWritable (told_in members)) }
     {
         let value = span_value(self.alloc, span)?;
+        self.with_value(name, value)
+    }
+
+    /// These members and two answers.
+    pub(crate) fn with_between(self, name: &str, between: &Between) -> Result<Members, Memory>
+        requires members { AreWritable (told_in self) }
+        ensures value { IfOk result (λ members.
+            told_in members ≡ put name.now (lines.between_data between.now) (told_in self)) }
+        ensures writable { IfOk result (λ members. AreWritable (told_in members)) }
+    {
+        let value = between_value(self.alloc, between)?;
         self.with_value(name, value)
     }
 

@@ -1,9 +1,11 @@
 -- A line that is in order prints what is meant, and any other one is refused.
-use Rattle.std.proofs.Common.{◌≡◌, refl, sym, ap, ◌∙◌}
+use Rattle.std.proofs.Common.{◌≡◌, refl, sym, subst, ap, ◌∙◌}
 use Rattle.std.specs.Prelude.{Ok, Err}
 use Rattle.std.proofs.lemmas.Result.{err_from_is_err_and}
-use Rattle.css_agree.specs.Agreeing.{answers_in}
+use Rattle.css_model.specs.WallClock.{Local}
+use Rattle.css_agree.specs.Agreeing.{after_line, answers_in}
 use Rattle.css_agree.specs.Inputs.{reading_of}
+use Rattle.css_agree.specs.Keeping.{StandsFor}
 use Rattle.css_agree.specs.Reading.{order_of}
 use Rattle.css_agree.proofs.Reading.{meant-err, meant-read}
 use Rattle.css_agree.proofs.reader.take_line.Goals as goal
@@ -42,3 +44,14 @@ returns-clause-answers c = λ older keeps.
     rw (meant-read own older c.args.earlier c.args.last c.args.number c.args.text.now c.in-Ok.line
     c.in-Ok.ensures.value keeps.last order)
     (record { cases = (c.in_ok-carry_out.ensures.answers (answers_in own older) keeps.stands).cases })
+
+pub returns-clause-keeps : goal.returns-clause-keeps
+returns-clause-keeps c = λ older keeps.
+    let P : Local → Type 0 = λ own. StandsFor c.carry_out.new.agree (after_line own c.in-Ok.line (answers_in own older))
+    in
+    rw c.in-Ok.ensures.value (record {
+      stands = subst P (sym c.carry_out.ensures.local) (c.in_ok-carry_out.ensures.stands
+          (answers_in c.args.agree.now.local older) keeps.stands);
+      last = (refl, sym c.reading-reading.ensures.value);
+      floor = rw c.reading-reading.ensures.value c.carry_out.ensures.floor;
+    })

@@ -12,13 +12,14 @@ abbrev told : After-line → Line
 told c = Known c.args.number c.args.reading c.args.known.now
 
 -- its members
-members : (c : After-line) → told_in c.in_ok-with_span.field-0 ≡ line_members (told c)
+members : (c : After-line) → told_in c.in_ok-with_span-2.field-0 ≡ line_members (told c)
 members c =
-    then _ _ c.in_ok-with_span.ensures.value
+    then _ _ c.in_ok-with_span-2.ensures.value
     (then _ _ c.in_ok-with_ticks.ensures.value
     (then_by _ c.in_ok-with_speed.ensures.value (ap signed (to_z-of_z w32 c.args.known.now.speed (search rules)))
     (then _ _ c.in_ok-with_rate.ensures.value
-    (then _ _ c.in_ok-with_small.ensures.value c.in_ok-report_members.ensures.value))))
+    (then _ _ c.in_ok-with_small.ensures.value
+    (then _ _ c.in_ok-with_span.ensures.value c.in_ok-report_members.ensures.value)))))
 
 pub returns-clause-text : goal.returns-clause-text
 returns-clause-text c = as_line c.line.result _ (told c) (members c) c.line.ensures.text

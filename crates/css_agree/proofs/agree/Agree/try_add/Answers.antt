@@ -44,7 +44,8 @@ returns-clause-undone c =
     let undone = c.in_ok-replaced.ensures.undone in
     let own = c.self.inside.local in
     let floor = c.self.inside.floor in
-    let back = ap (λ (xs : List Best). record { local = own; bests = xs; floor = floor }) undone.back ∙ c.self.view_is in
+    let back =
+    ap (λ (xs : List Best). record { local = own; bests = xs; floor = floor }) undone.back ∙ c.self.view_is in
     record {
       can = record {
         place = undone.place;

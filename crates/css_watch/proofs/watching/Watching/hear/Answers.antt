@@ -34,7 +34,7 @@ pub returns-in-Err-clause-steps : goal.returns-in-Err-clause-steps
 returns-in-Err-clause-steps g c history k answers of =
     let P : Option (List ℕ) → Type 0 = λ x. AppendsPrefix (g.K.Sink.holds c.args.self.now.sink.now) x
     (text_of (lines_by c.args.self.now.plan.now (notes.Heard c.args.session c.args.text.now) history
-    c.args.self.now.progress.now)) in
+    c.args.self.now.progress.now answers)) in
     record {
       says = record {
         cause = Some fault.Memory;
