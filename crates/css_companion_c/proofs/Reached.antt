@@ -8,7 +8,7 @@ use borrow.Author.Differences.{up, down, product_is, same_in}
 use Rattle.css_num.specs.Division.{ceil_div}
 use Rattle.css_num.proofs.Rounding.{le-floor_div_iff, ceil_div-le_iff}
 use Rattle.css_model.specs.declared.TheConstants.{LIMIT}
-use Rattle.css_model.specs.WallClock.{Answer, Local, IsAnswer, IsLocal, lower, upper, lo, hi}
+use Rattle.css_model.specs.WallClock.{Answer, Local, IsAnswer, IsLocal, lower, upper, lo, hi, scaled_width}
 use Rattle.css_span.proofs.Nearness.{near-floor_div, near-ceil_div}
 use Rattle.css_companion.specs.declared.knowledge.Timing.{Timing}
 use Rattle.css_companion_c.specs.Leads.{distance}
@@ -253,27 +253,49 @@ lower_iff own answer value passed begin goes is reading =
 product-near : (a b : ℤ) (m n : ℕ) → unsigned_abs a ≤ m → unsigned_abs b ≤ n → unsigned_abs (a *ℤ b) ≤ m * n
 product-near a b m n p q = subst (λ (k : ℕ). k ≤ m * n) (sym (unsigned_abs-mul a b)) (mul-le-mul p q)
 
-pub hi-near : (own : Local) (answer : Answer) (reading : ℕ) → IsLocal own → IsAnswer answer → reading < LIMIT
-    → unsigned_abs (hi own answer reading) ≤ 2 ^ 68
-unfolding hi upper
-hi-near own answer reading local ranges range =
+upper-near : (own : Local) (answer : Answer) (reading : ℕ) → IsLocal own → IsAnswer answer → reading < LIMIT
+    → unsigned_abs (upper own answer reading) ≤ 2 ^ 94
+unfolding upper
+upper-near own answer reading local ranges range =
     let received = product-near (pos (256000000 - own.error)) (pos (answer.t2 + answer.precision + 1)) (2 ^ 28) (2 ^ 64)
     (omega (arith, ints)) (omega (arith, ints, ranges.t2, ranges.precision)) in
     let since = product-near (pos (256000000 + answer.error))
     (pos (reading + 2 * own.precision + 1) -ℤ pos answer.t1) (2 ^ 29) (2 ^ 64)
     (omega (arith, ints, ranges.error)) (omega (arith, ints, ranges.t1, local.precision)) in
-    near-ceil_div (upper own answer reading) (256000000 - own.error) (omega (arith, local.error))
-    (omega (arith, ints, received, since))
+    omega (arith, ints, received, since)
 
-pub lo-near : (own : Local) (answer : Answer) (reading : ℕ) → IsLocal own → IsAnswer answer → reading < LIMIT
-    → unsigned_abs (lo own answer reading) ≤ 2 ^ 68
-unfolding lo lower
-lo-near own answer reading local ranges range =
+lower-near : (own : Local) (answer : Answer) (reading : ℕ) → IsLocal own → IsAnswer answer → reading < LIMIT
+    → unsigned_abs (lower own answer reading) ≤ 2 ^ 94
+unfolding lower
+lower-near own answer reading local ranges range =
     let sent = product-near (pos (256000000 + own.error))
     (pos answer.t3 -ℤ pos (answer.precision + 1)) (2 ^ 29) (2 ^ 64)
     (omega (arith, ints, local.error)) (omega (arith, ints, ranges.t3, ranges.precision)) in
     let since = product-near (pos (256000000 - answer.error))
     (pos reading -ℤ pos (answer.t4 + 2 * own.precision + 1)) (2 ^ 28) (2 ^ 64)
     (omega (arith, ints)) (omega (arith, ints, ranges.t4, local.precision)) in
+    omega (arith, ints, sent, since)
+
+pub hi-near : (own : Local) (answer : Answer) (reading : ℕ) → IsLocal own → IsAnswer answer → reading < LIMIT
+    → unsigned_abs (hi own answer reading) ≤ 2 ^ 68
+unfolding hi
+hi-near own answer reading local ranges range =
+    near-ceil_div (upper own answer reading) (256000000 - own.error) (omega (arith, local.error))
+    (omega (arith, ints, upper-near own answer reading local ranges range, local.error))
+
+pub lo-near : (own : Local) (answer : Answer) (reading : ℕ) → IsLocal own → IsAnswer answer → reading < LIMIT
+    → unsigned_abs (lo own answer reading) ≤ 2 ^ 68
+unfolding lo
+lo-near own answer reading local ranges range =
     near-floor_div (lower own answer reading) (256000000 + own.error) (omega arith)
-    (omega (arith, ints, sent, since))
+    (omega (arith, ints, lower-near own answer reading local ranges range))
+
+pub width-near : (own : Local) (answer : Answer) (reading : ℕ) → IsLocal own → IsAnswer answer → reading < LIMIT
+    → unsigned_abs (scaled_width own answer reading) ≤ 2 ^ 123
+unfolding scaled_width
+width-near own answer reading local ranges range =
+    let high = product-near (upper own answer reading) (pos (256000000 + own.error)) (2 ^ 94) (2 ^ 28)
+    (upper-near own answer reading local ranges range) (omega (arith, ints, local.error)) in
+    let low = product-near (lower own answer reading) (pos (256000000 - own.error)) (2 ^ 94) (2 ^ 28)
+    (lower-near own answer reading local ranges range) (omega (arith, ints)) in
+    omega (arith, ints, high, low)

@@ -31,13 +31,13 @@ are_met-none own values floor readings from end = record {
 }
 
 -- of the first answers of a list, those before the last
-before_last : (P : Answer → Type 0) (answers : List Answer) (i : ℕ) → All P (take (i + 1) answers)
+pub before_last : (P : Answer → Type 0) (answers : List Answer) (i : ℕ) → All P (take (i + 1) answers)
     → All P (take i answers)
 before_last P answers i each =
     subst (All P) (take-take i (i + 1) answers (omega arith)) (All-take P i (take (i + 1) answers) each)
 
 -- and the last
-last : (P : Answer → Type 0) (answers : List Answer) (i : ℕ) (d : Answer) → i < length answers
+pub last : (P : Answer → Type 0) (answers : List Answer) (i : ℕ) (d : Answer) → i < length answers
     → All P (take (i + 1) answers) → P (get_or answers i d)
 last P answers i d within each =
     subst P (get_or-take (i + 1) answers i d (omega arith))
@@ -69,12 +69,12 @@ are_met-more own values floor answers i d old met readings inside so_far next fr
 }
 
 -- ---- the kept answers, the other way round
-all_reversed : (P : Answer → Type 0) (answers : List Answer) → All P answers → All P (reverse answers)
+pub all_reversed : (P : Answer → Type 0) (answers : List Answer) → All P answers → All P (reverse answers)
 all_reversed P answers each = λ k d within.
     let inside : k < length answers = omega (arith, length-reverse answers) in
     subst P (sym (get_or-reverse answers k d inside)) (each (length answers - 1 - k) d (omega arith))
 
-all_turned : (P : Answer → Type 0) (answers : List Answer) → All P (reverse answers) → All P answers
+pub all_turned : (P : Answer → Type 0) (answers : List Answer) → All P (reverse answers) → All P answers
 all_turned P answers each = subst (All P) (reverse-reverse answers) (all_reversed P (reverse answers) each)
 
 pub met_kept : (companion : Companion) (values : Stretch) (own : Local) (floor : ℕ) (answers : List Answer)

@@ -1,8 +1,7 @@
 -- Up to which reading the television's wall clock is known narrowly enough.
-use Rattle.std.specs.Prelude.{ℕ, ◌≡◌, ◌+◌, ◌-◌, ◌*◌, ℤ, pos, int_lt, ◌-ℤ◌, ◌*ℤ◌, ◌≤ℤ◌, ◌<ℤ◌, ◌≤◌, ◌<◌, ◌==◌}
-use Rattle.std.specs.Prelude.{List, length, All, Bool, true, false, not, if◌then◌else◌}
+use Rattle.std.specs.Prelude.{ℕ, ◌≡◌, ◌+◌, ◌-◌, ◌*◌, ℤ, pos, ◌-ℤ◌, ◌*ℤ◌, ◌≤ℤ◌, ◌<ℤ◌, ◌≤◌, ◌<◌, ◌==◌, ◌↔◌}
+use Rattle.std.specs.Prelude.{List, length, All, Bool, true, false, if◌then◌else◌}
 use Rattle.std.specs.Prelude.{Option, Some, None, min, max, unwrap_or}
-use Rattle.std.specs.List.{list_any}
 use Rattle.css_num.specs.Spans.{Interval}
 use Rattle.css_model.specs.declared.TheConstants.{F, LIMIT}
 use Rattle.css_model.specs.WallClock.{Answer, Local, scaled_width}
@@ -39,12 +38,14 @@ pub record IsNarrowUntil (width last : ℕ) (companion : Companion) : Type 0 whe
 abbrev pub limit_of : ℕ → Local → ℤ
 limit_of width own = (pos width -ℤ pos 1) *ℤ pos ((F + own.error) * (F - own.error))
 
--- At a reading in range the span of each kept answer is wider than one nanosecond less than the width, before its ends
--- are rounded.
+-- The span of an answer is wider than one nanosecond less than the width, before its ends are rounded.
+abbrev pub IsWide : Local → ℕ → ℕ → Answer → Type 0
+IsWide own width reading answer = limit_of width own <ℤ scaled_width own answer reading
+
+-- At a reading in range that of each kept answer is.
 abbrev pub IsWideAt : ℕ → ℕ → Companion → Type 0
 IsWideAt width reading companion = reading < LIMIT
-    → All (λ answer. limit_of width (own_of companion) <ℤ scaled_width (own_of companion) answer reading)
-    companion.client.estimate.kept
+    → All (IsWide (own_of companion) width reading) companion.client.estimate.kept
 
 -- So up to such a reading the span that is told is at most so wide, also by a companion that answers alike.
 abbrev pub BoundsTheWall : Type 0
@@ -73,11 +74,8 @@ abbrev pub IsDue : ℕ → ℕ → Follower → Type 0
 IsDue width due follower = IsDueBy width due follower.companion follower.asked follower.answered
 
 -- ---- for private clauses
--- whether one of the answers has at most this scaled width at a reading
-abbrev pub has_narrow : Local → ℤ → ℕ → List Answer → Bool
-has_narrow own limit reading answers = list_any (λ answer. not (int_lt limit (scaled_width own answer reading))) answers
-
--- whether one of the kept answers has
-abbrev pub is_narrow_at : ℤ → ℕ → Companion → Bool
-is_narrow_at limit reading companion =
-    has_narrow (own_of companion) limit reading companion.client.estimate.kept
+-- From this reading on, of those from the floor on, the spans of all answers are too wide.
+pub record IsWideFrom (own : Local) (width floor : ℕ) (answers : List Answer) (from : ℤ) : Type 0 where
+  pub later : pos floor ≤ℤ from
+  pub wide : (reading : ℕ) → floor ≤ reading → reading < LIMIT
+      → (from ≤ℤ pos reading) ↔ All (IsWide own width reading) answers

@@ -49,7 +49,7 @@ mod when;
 mod words;
 
 use follower::Follower;
-use handle::Handle;
+use handle::{Handle, changes, reads};
 use reading::{Ends, Position};
 use snapshot::Snapshot;
 use std::alloc::Global;
@@ -116,15 +116,10 @@ pub extern "C" fn css_companion_slept(alloc: Global, handle: &mut Handle) -> u32
     ensures anew { result ≡ DONE → Becomes (behind handle.old) (behind handle.new) (λ old new. (history : History)
         → Agrees old history → BeginsAnew new (Slept ∷ history)) }
 {
-    match handle.take(alloc) {
-        Some(boxed) => {
-            let mut follower = boxed;
-            follower.slept();
-            handle.put(follower, codes::DONE);
-            codes::DONE
-        }
-        None => codes::CLOSED,
-    }
+    changes!(handle, alloc, |follower| {
+        follower.slept();
+        codes::DONE
+    })
 }
 
 /// The request to send to the television's wall clock, at this reading of the own clock.
@@ -182,15 +177,11 @@ pub extern "C" fn css_companion_land(
         → StandsFor old.companion history → Agrees old history → AreNotAllTrue (own_of old.companion) reading
         (accepted old.companion (Clock why.Land reading ∷ Took peer bytes.now ∷ history))) }
 {
-    match handle.take(alloc) {
-        Some(boxed) => {
-            let mut follower = boxed;
-            let code = exchange::land(&mut follower, bytes, reading);
-            handle.put(follower, code);
-            code
-        }
-        None => codes::CLOSED,
-    }
+    changes!(
+        handle,
+        alloc,
+        |follower| exchange::land(&mut follower, bytes, reading)
+    )
 }
 
 /// The span of the television's wall clock at this reading of the own clock.
@@ -212,14 +203,7 @@ pub extern "C" fn css_companion_wall(
     ensures span { result ≡ DONE → Of (behind handle.old) (IsTheWall reading span.new) }
     ensures truth { result ≡ DONE → Of (behind handle.old) (HoldsTheWall reading span.new) }
 {
-    match handle.take(alloc) {
-        Some(boxed) => {
-            let code = reading::wall(&boxed, reading, span);
-            handle.put_back(boxed);
-            code
-        }
-        None => codes::CLOSED,
-    }
+    reads!(handle, alloc, |boxed| reading::wall(&boxed, reading, span))
 }
 
 /// The span of the television's wall clock that all answers accepted since the last sleep allow together, at this
@@ -241,14 +225,11 @@ pub extern "C" fn css_companion_agreed(
     ensures shared { result ≡ DONE → Has (behind handle.old) (IsTheirs reading span.new) }
     ensures truth { result ≡ DONE → Has (behind handle.old) (IsTrueOfAll reading span.new) }
 {
-    match handle.take(alloc) {
-        Some(boxed) => {
-            let code = reading::agreed(&boxed, reading, span);
-            handle.put_back(boxed);
-            code
-        }
-        None => codes::CLOSED,
-    }
+    reads!(
+        handle,
+        alloc,
+        |boxed| reading::agreed(&boxed, reading, span)
+    )
 }
 
 /// The ticks that the television may be presenting at this reading of the own clock, and what they go by.
@@ -270,14 +251,11 @@ pub extern "C" fn css_companion_position(
     ensures truth { result ≡ DONE → Of (behind handle.old) (HoldsThePosition reading position.new) }
     ensures timing { result ≡ DONE → Of (behind handle.old) (GoesWith position.new) }
 {
-    match handle.take(alloc) {
-        Some(boxed) => {
-            let code = reading::ticks(&boxed, reading, position);
-            handle.put_back(boxed);
-            code
-        }
-        None => codes::CLOSED,
-    }
+    reads!(
+        handle,
+        alloc,
+        |boxed| reading::ticks(&boxed, reading, position)
+    )
 }
 
 /// By how many nanoseconds of the timeline somebody at the beginning of this tick is ahead of the television, at this
@@ -302,14 +280,11 @@ pub extern "C" fn css_companion_lead(
     ensures lead { result ≡ DONE → Of (behind handle.old) (IsTheLead reading tick lead.new) }
     ensures truth { result ≡ DONE → Of (behind handle.old) (HoldsTheLead reading tick lead.new) }
 {
-    match handle.take(alloc) {
-        Some(boxed) => {
-            let code = lead::lead(&boxed, reading, tick, lead);
-            handle.put_back(boxed);
-            code
-        }
-        None => codes::CLOSED,
-    }
+    reads!(
+        handle,
+        alloc,
+        |boxed| lead::lead(&boxed, reading, tick, lead)
+    )
 }
 
 /// Between which two readings of the own clock the television shows a tick, of those that may still be handed.
@@ -328,14 +303,7 @@ pub extern "C" fn css_companion_when(
     ensures least { result ≡ DONE → Of (behind handle.old) (IsLeast tick readings.new.from readings.new.to) }
     ensures never { result ≡ answers.NEVER → Of (behind handle.old) (IsNeverShown tick) }
 {
-    match handle.take(alloc) {
-        Some(boxed) => {
-            let code = when::when(&boxed, tick, readings);
-            handle.put_back(boxed);
-            code
-        }
-        None => codes::CLOSED,
-    }
+    reads!(handle, alloc, |boxed| when::when(&boxed, tick, readings))
 }
 
 /// Puts the line of a report with this number into a buffer.
@@ -363,14 +331,11 @@ pub extern "C" fn css_companion_report(
         → StandsFor companion history → used.new ≡ length (line_of number
         (report_after (own_of companion) companion.setup.selector history reading) None)) }
 {
-    match handle.take(alloc) {
-        Some(boxed) => {
-            let code = reading::report(alloc, &boxed.companion, number, reading, out, used);
-            handle.put_back(boxed);
-            code
-        }
-        None => codes::CLOSED,
-    }
+    reads!(
+        handle,
+        alloc,
+        |boxed| reading::report(alloc, &boxed.companion, number, reading, out, used)
+    )
 }
 
 /// The last reading up to which the span of the wall clock is at most so many nanoseconds wide.
@@ -390,14 +355,7 @@ pub extern "C" fn css_companion_until(
     ensures never { result ≡ answers.NEVER → Of (behind handle.old) (λ companion.
         IsWideAt width companion.client.floor companion) }
 {
-    match handle.take(alloc) {
-        Some(boxed) => {
-            let code = until::until(&boxed, width, reading);
-            handle.put_back(boxed);
-            code
-        }
-        None => codes::CLOSED,
-    }
+    reads!(handle, alloc, |boxed| until::until(&boxed, width, reading))
 }
 
 /// From which reading a request is due, where the span of the wall clock is to be at most so wide, and from which the
@@ -418,14 +376,11 @@ pub extern "C" fn css_companion_next(
     ensures ask { result ≡ DONE → Has (behind handle.old) (IsDue width ask.new) }
     ensures look { result ≡ DONE → Of (behind handle.old) (LooksAt tick look.new) }
 {
-    match handle.take(alloc) {
-        Some(boxed) => {
-            let code = next::next(&boxed, width, tick, ask, look);
-            handle.put_back(boxed);
-            code
-        }
-        None => codes::CLOSED,
-    }
+    reads!(
+        handle,
+        alloc,
+        |boxed| next::next(&boxed, width, tick, ask, look)
+    )
 }
 
 /// Copies what positions go by, in plain numbers. [`css_snapshot_position`] tells them without the companion.
@@ -441,14 +396,11 @@ pub extern "C" fn css_companion_snapshot(
     ensures age { handle.new.age ≡ handle.old.age }
     ensures truth { result ≡ DONE → Of (behind handle.old) (IsSnapshotOf snapshot.new) }
 {
-    match handle.take(alloc) {
-        Some(boxed) => {
-            let code = snapshot::take_snapshot(&boxed, snapshot);
-            handle.put_back(boxed);
-            code
-        }
-        None => codes::CLOSED,
-    }
+    reads!(
+        handle,
+        alloc,
+        |boxed| snapshot::take_snapshot(&boxed, snapshot)
+    )
 }
 
 /// The ticks by a snapshot at this reading: what [`css_companion_position`] would tell of a companion of which it is a

@@ -43,9 +43,9 @@ fn bounded(number: i128) -> i128
     number.max(-FAR).min(FAR)
 }
 
-/// The nanoseconds of the wall clock in which a timeline goes a distance: by its factor in each. On a pause they are
-/// beyond all, or none are needed.
-fn needed(distance: i128, factor: u64) -> i128
+/// The nanoseconds in which something goes a distance: by its factor in each, as a timeline does. Where it stands still
+/// they are beyond all, or none are needed.
+pub(crate) fn needed(distance: i128, factor: u64) -> i128
     requires { unsigned_abs distance ≤ 2 ^ 125 }
     ensures meaning { (passed : ℤ) → unsigned_abs passed ≤ 2 ^ 70
         → (result ≤ℤ passed) ↔ (distance ≤ℤ (passed *ℤ pos factor)) }

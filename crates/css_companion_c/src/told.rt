@@ -16,7 +16,7 @@ ghost use Rattle.css_companion_c.specs.Noticing.{refused_for, words_of};
 ghost use Rattle.css_companion_c.specs.Promises.{Adds};
 ghost use Rattle.css_companion_c.specs.Texts.{Holds, property_of, listed, TellsTimeline};
 
-use crate::handle::Handle;
+use crate::handle::{Handle, changes, reads};
 use crate::timelines::{TimelineRate, timeline};
 use crate::{codes, content, sessions};
 use std::alloc::Global;
@@ -36,15 +36,7 @@ pub extern "C" fn css_companion_cii(alloc: Global, handle: &mut Handle, text: &[
     ensures stands { GoesOn result → Between (behind handle.old) (behind handle.new) (λ old new. (peer : ℕ)
         → Adds (λ history. kind_of peer history ≡ Some kind.Cii) (λ history. Heard peer text.now ∷ history) old new) }
 {
-    match handle.take(alloc) {
-        Some(boxed) => {
-            let mut follower = boxed;
-            let code = sessions::cii(&mut follower, text);
-            handle.put(follower, code);
-            code
-        }
-        None => codes::CLOSED,
-    }
+    changes!(handle, alloc, |follower| sessions::cii(&mut follower, text))
 }
 
 /// Puts a property of the content's state into a buffer, by its number: 0 protocolVersion, 1 mrsUrl, 2 contentId,
@@ -67,14 +59,11 @@ pub extern "C" fn css_companion_cii_field(
     ensures needs { result ≡ NO_ROOM → Of (behind handle.old) (λ companion.
         IfSome (property_of property companion.state) (λ text. used.new ≡ length text)) }
 {
-    match handle.take(alloc) {
-        Some(boxed) => {
-            let code = content::field(&boxed.companion, property, out, used);
-            handle.put_back(boxed);
-            code
-        }
-        None => codes::CLOSED,
-    }
+    reads!(
+        handle,
+        alloc,
+        |boxed| content::field(&boxed.companion, property, out, used)
+    )
 }
 
 /// Puts into a buffer what was refused: the property for which the last CII text was, by its name; else why the last
@@ -97,14 +86,11 @@ pub extern "C" fn css_companion_fault(
     ensures needs { result ≡ NO_ROOM → Has (behind handle.old) (λ old.
         IfSome (words_of old) (λ words. used.new ≡ length words)) }
 {
-    match handle.take(alloc) {
-        Some(boxed) => {
-            let code = content::fault(alloc, &boxed, out, used);
-            handle.put_back(boxed);
-            code
-        }
-        None => codes::CLOSED,
-    }
+    reads!(
+        handle,
+        alloc,
+        |boxed| content::fault(alloc, &boxed, out, used)
+    )
 }
 
 /// Puts the whole state of the content into a buffer, as the text that tells it.
@@ -125,14 +111,11 @@ pub extern "C" fn css_companion_cii_state(
     ensures needs { result ≡ NO_ROOM → Of (behind handle.old) (λ companion.
         used.new ≡ length (change_text (full_change companion.state))) }
 {
-    match handle.take(alloc) {
-        Some(boxed) => {
-            let code = content::state(alloc, &boxed.companion, out, used);
-            handle.put_back(boxed);
-            code
-        }
-        None => codes::CLOSED,
-    }
+    reads!(
+        handle,
+        alloc,
+        |boxed| content::state(alloc, &boxed.companion, out, used)
+    )
 }
 
 /// Puts the selector of a timeline that the television lists into a buffer, with its tick rate, by its number from 0.
@@ -156,14 +139,11 @@ pub extern "C" fn css_companion_timeline(
     ensures needs { result ≡ NO_ROOM → Of (behind handle.old) (λ companion.
         IfSome (listed number companion.state.timelines) (λ timeline. used.new ≡ length timeline.selector)) }
 {
-    match handle.take(alloc) {
-        Some(boxed) => {
-            let code = timeline(&boxed.companion, number, rate, out, used);
-            handle.put_back(boxed);
-            code
-        }
-        None => codes::CLOSED,
-    }
+    reads!(
+        handle,
+        alloc,
+        |boxed| timeline(&boxed.companion, number, rate, out, used)
+    )
 }
 
 /// Puts the text to send on a TS session that was opened into a buffer. That session begins anew: there is no control
@@ -190,15 +170,11 @@ pub extern "C" fn css_companion_setup(
     ensures stands { result ≡ DONE → Between (behind handle.old) (behind handle.new) (λ old new. (peer : ℕ)
         → Adds (λ _. Unit {0}) (λ history. Dialled kind.Ts peer ∷ history) old new) }
 {
-    match handle.take(alloc) {
-        Some(boxed) => {
-            let mut follower = boxed;
-            let code = sessions::setup(&mut follower.companion, out, used);
-            handle.put(follower, code);
-            code
-        }
-        None => codes::CLOSED,
-    }
+    changes!(
+        handle,
+        alloc,
+        |follower| sessions::setup(&mut follower.companion, out, used)
+    )
 }
 
 /// Takes in a text of the TS session. One that can't be read takes the place of the last control timestamp too.
@@ -213,15 +189,11 @@ pub extern "C" fn css_companion_control(alloc: Global, handle: &mut Handle, text
     ensures stands { result ≡ DONE → Between (behind handle.old) (behind handle.new) (λ old new. (peer : ℕ)
         → Adds (λ history. kind_of peer history ≡ Some kind.Ts) (λ history. Heard peer text.now ∷ history) old new) }
 {
-    match handle.take(alloc) {
-        Some(boxed) => {
-            let mut follower = boxed;
-            let code = sessions::control(&mut follower.companion, text);
-            handle.put(follower, code);
-            code
-        }
-        None => codes::CLOSED,
-    }
+    changes!(
+        handle,
+        alloc,
+        |follower| sessions::control(&mut follower.companion, text)
+    )
 }
 
 /// The TS session closed.
@@ -236,13 +208,8 @@ pub extern "C" fn css_companion_ts_closed(alloc: Global, handle: &mut Handle) ->
     ensures stands { result ≡ DONE → Between (behind handle.old) (behind handle.new) (λ old new. (entry : Entry)
         → Adds (steps.IsEntryOf event.TsClosed entry) (λ history. entry ∷ history) old new) }
 {
-    match handle.take(alloc) {
-        Some(boxed) => {
-            let mut follower = boxed;
-            follower.companion.ts_closed();
-            handle.put(follower, codes::DONE);
-            codes::DONE
-        }
-        None => codes::CLOSED,
-    }
+    changes!(handle, alloc, |follower| {
+        follower.companion.ts_closed();
+        codes::DONE
+    })
 }

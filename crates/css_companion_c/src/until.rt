@@ -1,6 +1,7 @@
 //! Until when the television's wall clock is known narrowly enough.
-ghost use Rattle.std.specs.Prelude.{◌≡◌, ◌≢◌, ◌+◌, ◌-◌, ◌*◌, ◌≤◌, ◌<◌, ◌^◌, ℕ, pos, ◌-ℤ◌, unsigned_abs, true, false};
-ghost use Rattle.css_model.specs.WallClock.{IsLocal};
+ghost use Rattle.std.specs.Prelude.{◌≡◌, ◌≢◌, ◌+◌, ◌-◌, ◌*◌, ◌≤◌, ◌<◌, ◌^◌, ◌↔◌, ℕ, pos, ◌+ℤ◌, ◌-ℤ◌, ◌≤ℤ◌, ◌<ℤ◌};
+ghost use Rattle.std.specs.Prelude.{unsigned_abs};
+ghost use Rattle.css_model.specs.WallClock.{IsAnswer, IsLocal, scaled_width};
 ghost use Rattle.css_companion_c.specs.Codes.{DONE, NEVER, if_agreeing, Searches};
 ghost use Rattle.css_companion_c.specs.Until as at;
 ghost use Rattle.css_companion_c.specs.Until.{IsNarrowUntil, IsLastNarrow, IsWideAt, IsDue};
@@ -8,6 +9,7 @@ ghost use Rattle.css_companion_c.specs.Until.{IsNarrowUntil, IsLastNarrow, IsWid
 use crate::codes;
 use crate::follower::Follower;
 use crate::lead::lengths;
+use crate::reaching::needed;
 use css_companion::Companion;
 use css_model::{F, LIMIT};
 use css_span::{Answer, Local, scaled_width};
@@ -44,54 +46,61 @@ fn limit_of(width: u64, local: &Local) -> i128
     lengths(less_one(width), scale(local))
 }
 
-/// Whether one of the answers has at most this scaled width at a reading.
-fn has_narrow(answers: &[Answer], local: &Local, limit: i128, reading: u64) -> bool
-    requires { reading < LIMIT }
-    ensures { result ≡ at.has_narrow local.now limit reading answers.now }
+/// By how much the scaled width of an answer's span rises in a nanosecond.
+fn growth(answer: &Answer, local: &Local) -> u64
+    ensures value { result ≡ 2 * F * (answer.now.error + local.now.error) }
+
+    // The caller never reads their fields, so it learns of their ranges here.
+    ensures answer { IsAnswer answer.now }
+    ensures local { IsLocal local.now }
 {
-    answers
-        .iter()
-        .any(|answer| !(limit < scaled_width(answer, local, reading)))
+    2 * F * u64::from(answer.error + local.error)
 }
 
-/// Whether a kept answer has at most this scaled width at a reading.
-fn is_narrow_at(companion: &Companion, limit: i128, reading: u64) -> bool
-    requires { reading < LIMIT }
-    ensures { result ≡ at.is_narrow_at limit reading companion.now }
+/// By how much a scaled width rises until it is above the limit.
+fn left(limit: i128, width: i128) -> i128
+    requires limit { unsigned_abs limit ≤ 2 ^ 124 }
+    requires width { unsigned_abs width ≤ 2 ^ 123 }
+    ensures value { result ≡ (limit -ℤ width) +ℤ pos 1 }
+    ensures small { unsigned_abs result ≤ 2 ^ 125 }
 {
-    has_narrow(companion.answers(), &companion.local(), limit, reading)
+    limit - width + 1
 }
 
-/// The first reading at which no kept answer is narrow enough. It is searched for by halves, since widths rise.
-fn first_wide(companion: &Companion, limit: i128) -> u64
-    ensures floor { companion.now.client.floor ≤ result }
-    ensures range { companion.now.client.floor < result → result ≤ LIMIT }
-    ensures narrow { (reading : ℕ) → companion.now.client.floor ≤ reading → reading < result
-        → at.is_narrow_at limit reading companion.now ≡ true }
-    ensures wide { result < LIMIT → at.is_narrow_at limit result companion.now ≡ false }
+/// The first reading at which the scaled width of an answer's span is above the limit. It rises evenly.
+fn wide_from(answer: &Answer, local: &Local, limit: i128) -> i128
+    requires { unsigned_abs limit ≤ 2 ^ 124 }
+    ensures { (reading : ℕ) → reading < LIMIT → (result ≤ℤ pos reading)
+        ↔ (limit <ℤ scaled_width local.now answer.now reading) }
 {
-    let mut low = companion.floor();
-    let mut high = LIMIT;
-    while low < high {
-        let middle = low + (high - low) / 2;
-        if is_narrow_at(companion, limit, middle) {
-            low = middle + 1;
-        } else {
-            high = middle;
-        }
+    let growth = growth(answer, local);
+    needed(left(limit, scaled_width(answer, local, 0)), growth)
+}
+
+/// The first reading, of those from the floor on, at which the spans of all answers are too wide.
+fn all_wide_from(answers: &[Answer], local: &Local, width: u64, floor: u64) -> i128
+    ensures wide { at.IsWideFrom local.now width floor answers.now result }
+    ensures local { IsLocal local.now }
+{
+    let limit = limit_of(width, local);
+    let mut end = i128::from(floor);
+    for answer in answers {
+        end = end.max(wide_from(answer, local, limit));
     }
-    low
+    end
 }
 
 /// The last reading up to which the wall clock's span is at most so wide, if there is one.
 fn last_narrow(companion: &Companion, width: u64) -> Option<u64>
     ensures { IsLastNarrow width result companion.now }
 {
-    let end = first_wide(companion, limit_of(width, &companion.local()));
-    if end <= companion.floor() {
+    let floor = companion.floor();
+    let wide = all_wide_from(companion.answers(), &companion.local(), width, floor);
+    let end = wide.min(i128::from(LIMIT));
+    if end <= i128::from(floor) {
         return None;
     }
-    Some(end - 1)
+    Some((end - 1) as u64)
 }
 
 /// The same, where there is an answer, and the answers haven't disagreed.

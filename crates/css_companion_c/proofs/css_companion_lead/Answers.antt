@@ -8,12 +8,12 @@ pub returns-in-Some-clause-lead : goal.returns-in-Some-clause-lead
 returns-in-Some-clause-lead c = λ done.
     of (IsTheLead c.args.reading c.args.tick c.lead-code.new.out) _ _
     (c.in-Some.ensures.taken ∙ ap Some (sym c.deref.ensures))
-    (subst (λ (t : ℤ). IsTheLead c.args.reading t c.lead-code.new.out c.deref.result.now.companion) (to_z-of_z c.ranges.tick)
-    (c.lead-code.ensures.lead done))
+    (subst (λ (t : ℤ). IsTheLead c.args.reading t c.lead-code.new.out c.deref.result.now.companion)
+    (to_z-of_z c.ranges.tick) (c.lead-code.ensures.lead done))
 
 pub returns-in-Some-clause-truth : goal.returns-in-Some-clause-truth
 returns-in-Some-clause-truth c = λ done.
     of (HoldsTheLead c.args.reading c.args.tick c.lead-code.new.out) _ _
     (c.in-Some.ensures.taken ∙ ap Some (sym c.deref.ensures))
-    (subst (λ (t : ℤ). HoldsTheLead c.args.reading t c.lead-code.new.out c.deref.result.now.companion) (to_z-of_z c.ranges.tick)
-    (c.lead-code.ensures.truth done))
+    (subst (λ (t : ℤ). HoldsTheLead c.args.reading t c.lead-code.new.out c.deref.result.now.companion)
+    (to_z-of_z c.ranges.tick) (c.lead-code.ensures.truth done))

@@ -15,4 +15,5 @@ pub returns-in-Some-clause-never : goal.returns-in-Some-clause-never
 returns-in-Some-clause-never c = λ never.
     of (IsNeverShown c.args.tick) _ _
     (c.in-Some.ensures.taken ∙ ap Some (sym c.deref.ensures))
-    (subst (λ (t : ℤ). IsNeverShown t c.deref.result.now.companion) (to_z-of_z c.ranges.tick) (c.when-code.ensures.never never))
+    (subst (λ (t : ℤ). IsNeverShown t c.deref.result.now.companion) (to_z-of_z c.ranges.tick)
+    (c.when-code.ensures.never never))
