@@ -41,8 +41,8 @@ pub fn goes_on(limit: Limit, first: Option<u64>, turn: Option<u64>, made: u64) -
     made < limit.most_turns() && !is_late(limit, first, turn)
 }
 
-/// The least reading at which something is due by the clock, of what a companion and a relay do alike: the next request,
-/// or the last turn.
+/// The least reading at which something is due by the clock, of what a companion and a relay do alike: the next
+/// request, or the last turn.
 pub fn next_due(live: &Live, limit: Limit, ask_every: u64) -> u64 {
     let last = limit.last_from(live.first.unwrap_or(0));
     match (live.wc, live.asked) {

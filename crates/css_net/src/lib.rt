@@ -8,6 +8,7 @@
 mod answers;
 mod datagrams;
 mod dials;
+mod failures;
 mod heads;
 mod log;
 mod masks;
@@ -16,7 +17,9 @@ mod names;
 mod net_outside;
 mod pace;
 mod partings;
+mod refusal;
 mod rest;
+mod resting;
 mod seen;
 mod session;
 mod sessions;

@@ -166,7 +166,8 @@ impl Sessions {
         }
     }
 
-    /// When there is something to do at a session, though nothing comes: at once, or where silent peers are minded next.
+    /// When there is something to do at a session, though nothing comes: at once, or where silent peers are minded
+    /// next.
     pub(crate) fn next(&self) -> u64 {
         let mut next = u64::MAX;
         for session in &self.list {

@@ -1,19 +1,21 @@
 //! All sockets of one end: what has come on them, and the pauses.
 ghost use Rattle.std.specs.Prelude.{IfOk, IfSome};
-ghost use Rattle.css_outside.specs.Outsides.{FitsRoom, IsSession};
+ghost use Rattle.css_outside.specs.Outsides.{IsSession};
 
 use crate::answers::DialFault;
 use crate::datagrams::Datagrams;
-use crate::dials::{Dials, Failures};
+use crate::dials::Dials;
+use crate::failures::Failures;
 use crate::log::{Event, Log};
 use crate::metered::Metered;
 use crate::names::addresses_of;
-use crate::pace::{LookUps, PAUSE, left, time};
+use crate::pace::{LookUps, PAUSE, time};
 use crate::partings::{LONGEST_PARTING, Partings};
-use crate::rest::{FINE, Rest, wait_of};
+use crate::refusal::Refusal;
+use crate::rest::Rest;
 use crate::session::Line;
 use crate::sessions::Sessions;
-use crate::upgrades::{FIRST_UPGRADE, Refusal, Service, Upgraded, Upgrades};
+use crate::upgrades::{FIRST_UPGRADE, Service, Upgraded, Upgrades};
 use crate::watch::{NOBODY, Watch};
 use css_devices::faults::fault_of;
 use css_num::Text;
@@ -25,8 +27,6 @@ use std::time::{Clock, Duration};
 use std::{io, str, thread};
 use tungstenite::CloseCode;
 
-/// How often a pause goes on that was cut for nothing.
-const MOST_CUTS: usize = 8;
 /// How many handshakes may end in one turn.
 const MOST_ENDED: usize = 16;
 /// The name of the session of peer 0. The names of sessions end below those of handshakes.
@@ -34,21 +34,21 @@ const FIRST_SESSION: usize = 16;
 
 /// The sockets of one end. Each call that needs the runtime is handed it, so that the type has no bounds.
 pub(crate) struct Sockets {
-    alloc: Global,
-    watch: Watch,
+    pub(crate) alloc: Global,
+    pub(crate) watch: Watch,
     /// Whether the watch was not asked since the last look for a datagram.
-    stale: bool,
+    pub(crate) stale: bool,
     /// Whether there was a pause in this turn, or a datagram came.
-    paused: bool,
-    rest: Rest,
-    datagrams: Datagrams,
-    upgrades: Upgrades,
-    dials: Dials,
-    look_ups: LookUps,
-    failures: Failures,
-    sessions: Sessions,
-    partings: Partings,
-    log: Log,
+    pub(crate) paused: bool,
+    pub(crate) rest: Rest,
+    pub(crate) datagrams: Datagrams,
+    pub(crate) upgrades: Upgrades,
+    pub(crate) dials: Dials,
+    pub(crate) look_ups: LookUps,
+    pub(crate) failures: Failures,
+    pub(crate) sessions: Sessions,
+    pub(crate) partings: Partings,
+    pub(crate) log: Log,
 }
 
 /// The name under which a session is watched.
@@ -114,7 +114,7 @@ impl Sockets {
     }
 
     /// Waits until something comes on a session, or the pause is over, and notes where it came.
-    fn gather<C: Clock>(&mut self, rt: &C, pause: Duration) -> Result<(), OutFault> {
+    pub(crate) fn gather<C: Clock>(&mut self, rt: &C, pause: Duration) -> Result<(), OutFault> {
         self.stale = false;
         let named = self.watch.wait(rt, pause).map_err(fault_of)?;
         for name in named {
@@ -131,72 +131,6 @@ impl Sockets {
         if self.stale {
             self.gather(rt, Duration::ZERO)?;
         }
-        Ok(())
-    }
-
-    /// A turn begins. Where the turn before had neither a pause nor a datagram there is a pause now, so that no peer
-    /// can use turns up but by datagrams.
-    pub(crate) fn begin_turn<C: Clock>(&mut self, rt: &C) -> Result<(), OutFault> {
-        if !self.paused {
-            match self.rest.told(time(rt)) {
-                Some(until) => self.rest_until(rt, until)?,
-                None => self.pause(rt)?,
-            }
-        }
-        self.paused = false;
-        self.rest.begin_turn(time(rt));
-        Ok(())
-    }
-
-    /// Pauses, whatever comes.
-    fn pause<C: Clock>(&mut self, rt: &C) -> Result<(), OutFault> {
-        let begun = time(rt);
-        self.gather(rt, left(rt, begun))?;
-        thread::sleep(rt, left(rt, begun));
-        Ok(())
-    }
-
-    // ---- rests
-
-    /// Nothing is due before this reading, in the turn that was begun.
-    pub(crate) fn tell_rest(&mut self, until: u64) {
-        self.rest.tell(until);
-    }
-
-    /// When a dial has something to do that was asked for in this turn.
-    fn next_dial(&self) -> u64 {
-        let cii = self.rest.in_turn(self.dials.cii.next());
-        let ts = self.rest.in_turn(self.dials.ts.next());
-        let wc = self.rest.in_turn(self.datagrams.next_dial());
-        cii.min(ts).min(wc)
-    }
-
-    /// When a turn has something to do, though nothing comes.
-    fn next(&self, now: u64) -> u64 {
-        if self.rest.came {
-            return 0;
-        }
-        let handshakes = self.upgrades.next(now).min(self.next_dial());
-        self.sessions.next().min(handshakes)
-    }
-
-    /// Rests until something comes, or until this time. It may end early.
-    fn rest_until<C: Clock>(&mut self, rt: &C, until: u64) -> Result<(), OutFault> {
-        let begun = time(rt);
-        for _ in 0..MOST_CUTS {
-            let now = time(rt);
-            let until = until.min(self.next(now));
-            // What parts needs no turn.
-            let left = until.min(self.partings.next()).saturating_sub(now);
-            self.gather(rt, wait_of(left))?;
-            if until <= now || self.rest.came {
-                break;
-            }
-            if left > 0 && left <= FINE {
-                thread::sleep(rt, Duration::from_nanos(left));
-            }
-        }
-        self.rest.end(begun, time(rt));
         Ok(())
     }
 
@@ -430,51 +364,6 @@ impl Sockets {
     }
 
     // ---- datagrams
-
-    /// Waits for a datagram. A pause that was cut for nothing goes on.
-    fn wait_for<C: Clock>(
-        &mut self,
-        rt: &C,
-        into: &mut [u8; 64],
-    ) -> Result<Option<(u32, usize)>, OutFault>
-        ensures room { IfOk result FitsRoom }
-    {
-        let begun = time(rt);
-        for _ in 0..MOST_CUTS {
-            let left = left(rt, begun);
-            if left == Duration::ZERO {
-                return Ok(None);
-            }
-            self.datagrams.wait(rt, left)?;
-            if let Some(taken) = self.datagrams.take(into)? {
-                return Ok(Some(taken));
-            }
-        }
-        thread::sleep(rt, left(rt, begun));
-        Ok(None)
-    }
-
-    /// The next datagram. Where none has come it is waited for, or the end rests.
-    pub(crate) fn take_datagram<C: Clock>(
-        &mut self,
-        rt: &C,
-        into: &mut [u8; 64],
-    ) -> Result<Option<(u32, usize)>, OutFault>
-        ensures room { IfOk result FitsRoom }
-    {
-        self.stale = true;
-        self.paused = true;
-        if let Some(taken) = self.datagrams.take(into)? {
-            return Ok(Some(taken));
-        }
-        match self.rest.told(time(rt)) {
-            None => self.wait_for(rt, into),
-            Some(until) => {
-                self.rest_until(rt, until)?;
-                self.datagrams.take(into)
-            }
-        }
-    }
 
     pub(crate) fn send_datagram(&mut self, peer: u32, bytes: &[u8; 32]) -> Result<(), OutFault> {
         self.datagrams.send(peer, bytes)

@@ -31,8 +31,8 @@ pub trait Outside {
         ensures told { Tells (told self.old) (told self.new) result (calls.clock_entries why) }
         ensures counted { CountsClock (counts self.old) (counts self.new) result };
 
-    /// Says that nothing is due before this reading of the clock, so that the outside may pause until then, where nothing
-    /// comes. It promises no pause.
+    /// Says that nothing is due before this reading of the clock, so that the outside may pause until then, where
+    /// nothing comes. It promises no pause.
     fn rest(&mut self, until: u64)
         ensures told { told self.new ≡ told self.old }
         ensures counted { counts self.new ≡ counts self.old };
