@@ -6,7 +6,7 @@ use crate::state::State;
 use css_num::{Text, Timelines};
 
 /// What a message says of one property.
-#[derive(Debug, Drop)]
+#[derive(Drop)]
 pub enum Told<T> {
     /// Nothing: the property stays as it is.
     Unsaid,
@@ -24,7 +24,6 @@ impl<T> Told<T> {
 }
 
 /// What a message says of the nine properties of a [`State`](crate::State).
-#[derive(Debug)]
 pub struct Change {
     pub protocol_version: Told<Text>,
     pub mrs_url: Told<Text>,
