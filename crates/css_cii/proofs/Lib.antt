@@ -2,7 +2,6 @@ pub mod Listing
 pub mod RoundTrips
 pub mod Runs
 pub mod Same
-pub mod SameChanges
 pub mod Sessions
 pub mod Utf8
 pub mod Laws

@@ -41,10 +41,10 @@ put_first k value no_members h = refl
 put_first k value (member l first rest) h = rw h refl
 
 -- a property whose name stands before them goes in front
-with_told_first : {T : Type 0} (written : T → Data) (p : CiiName) (told : Told T) (members : Members)
+with_told-first : {T : Type 0} (written : T → Data) (p : CiiName) (told : Told T) (members : Members)
     → StandsBefore (json_name p) members → with_told written p told members ≡ said_before written p told members
-with_told_first written p Unsaid rest h = refl
-with_told_first written p (Said value) rest h = put_first (json_name p) (or_null written value) rest h
+with_told-first written p Unsaid rest h = refl
+with_told-first written p (Said value) rest h = put_first (json_name p) (or_null written value) rest h
 
 -- a name before that of a property, and before the rest, stands before both
 before : {T : Type 0} (written : T → Data) (k : List ℕ) (p : CiiName) (told : Told T) (rest : Members)
@@ -141,25 +141,25 @@ first8 c = tt
 
 -- putting them in, from the last name to the first, gives them in order
 in_order8 : (c : Change) → with_told string name.WcUrl c.wc_url no_members ≡ from8 c
-in_order8 c = with_told_first string name.WcUrl c.wc_url (from9 c) (first8 c)
+in_order8 c = with_told-first string name.WcUrl c.wc_url (from9 c) (first8 c)
 
 in_order7 : (c : Change) → with_told string name.TsUrl c.ts_url
     (with_told string name.WcUrl c.wc_url no_members) ≡ from7 c
 in_order7 c = ap (λ ms. with_told string name.TsUrl c.ts_url ms) (in_order8 c)
-    ∙ with_told_first string name.TsUrl c.ts_url (from8 c) (first7 c)
+    ∙ with_told-first string name.TsUrl c.ts_url (from8 c) (first7 c)
 
 in_order6 : (c : Change) → with_told timelines_data name.Timelines c.timelines
     (with_told string name.TsUrl c.ts_url
     (with_told string name.WcUrl c.wc_url no_members)) ≡ from6 c
 in_order6 c = ap (λ ms. with_told timelines_data name.Timelines c.timelines ms) (in_order7 c)
-    ∙ with_told_first timelines_data name.Timelines c.timelines (from7 c) (first6 c)
+    ∙ with_told-first timelines_data name.Timelines c.timelines (from7 c) (first6 c)
 
 in_order5 : (c : Change) → with_told string name.TeUrl c.te_url
     (with_told timelines_data name.Timelines c.timelines
     (with_told string name.TsUrl c.ts_url
     (with_told string name.WcUrl c.wc_url no_members))) ≡ from5 c
 in_order5 c = ap (λ ms. with_told string name.TeUrl c.te_url ms) (in_order6 c)
-    ∙ with_told_first string name.TeUrl c.te_url (from6 c) (first5 c)
+    ∙ with_told-first string name.TeUrl c.te_url (from6 c) (first5 c)
 
 in_order4 : (c : Change) → with_told string name.ProtocolVersion c.protocol_version
     (with_told string name.TeUrl c.te_url
@@ -167,7 +167,7 @@ in_order4 : (c : Change) → with_told string name.ProtocolVersion c.protocol_ve
     (with_told string name.TsUrl c.ts_url
     (with_told string name.WcUrl c.wc_url no_members)))) ≡ from4 c
 in_order4 c = ap (λ ms. with_told string name.ProtocolVersion c.protocol_version ms) (in_order5 c)
-    ∙ with_told_first string name.ProtocolVersion c.protocol_version (from5 c) (first4 c)
+    ∙ with_told-first string name.ProtocolVersion c.protocol_version (from5 c) (first4 c)
 
 in_order3 : (c : Change) → with_told string name.PresentationStatus c.presentation_status
     (with_told string name.ProtocolVersion c.protocol_version
@@ -176,7 +176,7 @@ in_order3 : (c : Change) → with_told string name.PresentationStatus c.presenta
     (with_told string name.TsUrl c.ts_url
     (with_told string name.WcUrl c.wc_url no_members))))) ≡ from3 c
 in_order3 c = ap (λ ms. with_told string name.PresentationStatus c.presentation_status ms) (in_order4 c)
-    ∙ with_told_first string name.PresentationStatus c.presentation_status (from4 c) (first3 c)
+    ∙ with_told-first string name.PresentationStatus c.presentation_status (from4 c) (first3 c)
 
 in_order2 : (c : Change) → with_told string name.MrsUrl c.mrs_url
     (with_told string name.PresentationStatus c.presentation_status
@@ -186,7 +186,7 @@ in_order2 : (c : Change) → with_told string name.MrsUrl c.mrs_url
     (with_told string name.TsUrl c.ts_url
     (with_told string name.WcUrl c.wc_url no_members)))))) ≡ from2 c
 in_order2 c = ap (λ ms. with_told string name.MrsUrl c.mrs_url ms) (in_order3 c)
-    ∙ with_told_first string name.MrsUrl c.mrs_url (from3 c) (first2 c)
+    ∙ with_told-first string name.MrsUrl c.mrs_url (from3 c) (first2 c)
 
 in_order1 : (c : Change) → with_told string name.ContentIdStatus c.content_id_status
     (with_told string name.MrsUrl c.mrs_url
@@ -197,7 +197,7 @@ in_order1 : (c : Change) → with_told string name.ContentIdStatus c.content_id_
     (with_told string name.TsUrl c.ts_url
     (with_told string name.WcUrl c.wc_url no_members))))))) ≡ from1 c
 in_order1 c = ap (λ ms. with_told string name.ContentIdStatus c.content_id_status ms) (in_order2 c)
-    ∙ with_told_first string name.ContentIdStatus c.content_id_status (from2 c) (first1 c)
+    ∙ with_told-first string name.ContentIdStatus c.content_id_status (from2 c) (first1 c)
 
 pub in_order0 : (c : Change) → with_told string name.ContentId c.content_id
     (with_told string name.ContentIdStatus c.content_id_status
@@ -209,7 +209,7 @@ pub in_order0 : (c : Change) → with_told string name.ContentId c.content_id
     (with_told string name.TsUrl c.ts_url
     (with_told string name.WcUrl c.wc_url no_members)))))))) ≡ from0 c
 in_order0 c = ap (λ ms. with_told string name.ContentId c.content_id ms) (in_order1 c)
-    ∙ with_told_first string name.ContentId c.content_id (from1 c) (first0 c)
+    ∙ with_told-first string name.ContentId c.content_id (from1 c) (first0 c)
 
 -- ---- the members that are found
 

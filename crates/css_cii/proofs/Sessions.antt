@@ -8,7 +8,7 @@ use Rattle.std.specs.Prelude.{bytes_eq, ⊤}
 use Rattle.css_num.specs.declared.timeline.Timeline.{Timeline}
 use Rattle.css_num.specs.Timelines.{timelines_eq}
 use Rattle.css_num.proofs.Equality.{timelines_eq-Decides}
-use Rattle.css_cii.specs.States.{is_unsaid, is_empty, is_same_state, applied, difference}
+use Rattle.css_cii.specs.States.{applied, difference}
 use Rattle.css_cii.specs.States.{after, is_same, told_new, Tells, TellsChange, TellsExactly}
 use Rattle.css_cii.specs.States.{TellsDifference, merged_from, IsSessionFrom, last_from}
 use Rattle.css_cii.specs.declared.state.State.{State}
@@ -136,26 +136,3 @@ merge_step state changes i change lt is =
 pub merge_end : (state first : State) (changes : List Change) (i : ℕ) → length changes ≤ i
     → merged_from state (drop i changes) ≡ merged_from first changes → state ≡ merged_from first changes
 merge_end state first changes i past h = ap (merged_from state) (sym (drop_all i changes past)) ∙ h
-
--- ---- nothing to tell
-
--- nothing is told of a property that stays
-unsaid_same : {T : Type 0} (new : Option T) (same : Bool) → is_unsaid (cond same Unsaid (Said new)) ≡ same
-unsaid_same new true = refl
-unsaid_same new false = refl
-
--- the difference is empty where the states are equal
-pub empty_difference : (old new : State) → is_empty (difference old new) ≡ is_same_state old new
-unfolding difference is_same_state
-empty_difference old new =
-    rw (
-      unsaid_same new.protocol_version (is_same bytes_eq old.protocol_version new.protocol_version),
-      unsaid_same new.mrs_url (is_same bytes_eq old.mrs_url new.mrs_url),
-      unsaid_same new.content_id (is_same bytes_eq old.content_id new.content_id),
-      unsaid_same new.content_id_status (is_same bytes_eq old.content_id_status new.content_id_status),
-      unsaid_same new.presentation_status (is_same bytes_eq old.presentation_status new.presentation_status),
-      unsaid_same new.wc_url (is_same bytes_eq old.wc_url new.wc_url),
-      unsaid_same new.ts_url (is_same bytes_eq old.ts_url new.ts_url),
-      unsaid_same new.te_url (is_same bytes_eq old.te_url new.te_url),
-      unsaid_same new.timelines (is_same timelines_eq old.timelines new.timelines),
-    ) refl

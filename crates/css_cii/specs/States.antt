@@ -79,19 +79,6 @@ is_same eq None (Some b) = false
 is_same eq (Some a) None = false
 is_same eq (Some a) (Some b) = eq a b
 
--- each of the nine properties is equal
-unfoldable pub is_same_state : State → State → Bool
-is_same_state one other =
-    is_same bytes_eq one.protocol_version other.protocol_version
-    && (is_same bytes_eq one.mrs_url other.mrs_url
-    && (is_same bytes_eq one.content_id other.content_id
-    && (is_same bytes_eq one.content_id_status other.content_id_status
-    && (is_same bytes_eq one.presentation_status other.presentation_status
-    && (is_same bytes_eq one.wc_url other.wc_url
-    && (is_same bytes_eq one.ts_url other.ts_url
-    && (is_same bytes_eq one.te_url other.te_url
-    && is_same timelines_eq one.timelines other.timelines)))))))
-
 -- the new value, and nothing where it is the old one
 abbrev pub told_new : {T : Type 0} → (T → T → Bool) → Option T → Option T → Told T
 told_new eq old new = if is_same eq old new then Unsaid else Said new
@@ -131,28 +118,6 @@ full_change state = record {
   te_url = Said state.te_url;
   timelines = Said state.timelines;
 }
-
--- ---- equal changes
-
--- the same is said of a property
-abbrev pub is_same_told : {T : Type 0} → (T → T → Bool) → Told T → Told T → Bool
-is_same_told eq Unsaid Unsaid = true
-is_same_told eq Unsaid (Said b) = false
-is_same_told eq (Said a) Unsaid = false
-is_same_told eq (Said a) (Said b) = is_same eq a b
-
--- the same is said of each of the nine properties
-unfoldable pub is_same_change : Change → Change → Bool
-is_same_change one other =
-    is_same_told bytes_eq one.protocol_version other.protocol_version
-    && (is_same_told bytes_eq one.mrs_url other.mrs_url
-    && (is_same_told bytes_eq one.content_id other.content_id
-    && (is_same_told bytes_eq one.content_id_status other.content_id_status
-    && (is_same_told bytes_eq one.presentation_status other.presentation_status
-    && (is_same_told bytes_eq one.wc_url other.wc_url
-    && (is_same_told bytes_eq one.ts_url other.ts_url
-    && (is_same_told bytes_eq one.te_url other.te_url
-    && is_same_told timelines_eq one.timelines other.timelines)))))))
 
 -- ---- what may be said when one state follows another
 

@@ -1,5 +1,4 @@
-ghost use Rattle.std.specs.Prelude.{◌≡◌, ◌↔◌, IsTrue, IfOk, bytes_eq};
-ghost use Rattle.css_num.specs.Timelines.{timelines_eq};
+ghost use Rattle.std.specs.Prelude.{◌≡◌, IfOk};
 ghost use Rattle.css_cii.specs.States as states;
 ghost use Rattle.css_cii.specs.Texts.{IsUtf8State};
 
@@ -67,14 +66,6 @@ impl State {
             timelines: None,
         }
     }
-
-    /// Whether two states are equal, property by property.
-    pub fn is_same(&self, other: &State) -> bool
-        ensures value { result ≡ states.is_same_state self.now other.now }
-        ensures exact { IsTrue result ↔ (self.now ≡ other.now) }
-    {
-        has_same_properties(self, other)
-    }
 }
 
 /// A copy of a state, which is equal to it.
@@ -95,32 +86,4 @@ impl Clone for State {
     fn clone(&self) -> Result<State, AllocError> {
         state_copied(self)
     }
-}
-
-fn has_same_words(one: &Option<Text>, other: &Option<Text>) -> bool
-    ensures { result ≡ states.is_same bytes_eq one.now other.now }
-{
-    *one == *other
-}
-
-fn has_same_timelines(one: &Option<Timelines>, other: &Option<Timelines>) -> bool
-    ensures { result ≡ states.is_same timelines_eq one.now other.now }
-{
-    *one == *other
-}
-
-/// Whether each property of two states is equal.
-#[tactic(auto, unfolding(crate::specs::States::is_same_state))]
-fn has_same_properties(one: &State, other: &State) -> bool
-    ensures { result ≡ states.is_same_state one.now other.now }
-{
-    has_same_words(&one.protocol_version, &other.protocol_version)
-        && has_same_words(&one.mrs_url, &other.mrs_url)
-        && has_same_words(&one.content_id, &other.content_id)
-        && has_same_words(&one.content_id_status, &other.content_id_status)
-        && has_same_words(&one.presentation_status, &other.presentation_status)
-        && has_same_words(&one.wc_url, &other.wc_url)
-        && has_same_words(&one.ts_url, &other.ts_url)
-        && has_same_words(&one.te_url, &other.te_url)
-        && has_same_timelines(&one.timelines, &other.timelines)
 }

@@ -19,8 +19,8 @@ use Rattle.css_cii.specs.declared.change.Told.{Told}
 use Rattle.css_cii.specs.declared.change.Told.TheVariants as told
 use Rattle.css_cii.specs.declared.fault.CiiFault.{CiiFault}
 use Rattle.css_cii.proofs.Laws.{message_reads}
-use Rattle.css_cii.proofs.Same.{is_same_state-Decides}
-use Rattle.css_cii.proofs.Sessions.{difference-exact, empty_difference}
+use Rattle.css_cii.proofs.Same.{same_where_empty}
+use Rattle.css_cii.proofs.Sessions.{difference-exact}
 use Rattle.css_cii.proofs.Utf8.{difference-utf8, full-utf8, empty-utf8}
 use Rattle.css_tsmsg.specs.Controls.{control_text, control_of, IsInRange}
 use Rattle.css_tsmsg.specs.declared.fault.TsFault.{TsFault}
@@ -104,9 +104,6 @@ difference_tells old new =
       te_url = at_least _ _ c.te_url h.te_url;
       timelines = at_least _ _ c.timelines h.timelines;
     }
-
-pub same_where_empty : (old new : State) → is_empty (difference old new) ≡ true → old ≡ new
-same_where_empty old new h = (is_same_state-Decides old new).0 (sym (empty_difference old new) ∙ h)
 
 -- ---- the messages of a session
 last_pushed : (b : State) (ss : List State) (s : State) → last_from b (ss ++ s ∷ []) ≡ s

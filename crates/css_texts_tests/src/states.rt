@@ -93,17 +93,14 @@ fn texts_change_what_they_say(rt: HostRuntime) {
 fn check_session(rt: &impl Abort, first: &State, second: &State) {
     let whole = full(first).expect(rt, "memory");
     let difference = diff(first, second).expect(rt, "memory");
-    let differ = !whole.is_same(&difference) && whole.is_same(&whole);
-    check_that(rt, differ, "two changes");
     let merged = merge(&[whole, difference]).expect(rt, "memory");
-    check_that(rt, merged.is_same(second), "the second state");
+    check_that(rt, merged == *second, "the second state");
 }
 
 #[test]
 fn sessions_give_their_last_state(rt: HostRuntime) {
     let state = evening(&rt, rt.alloc());
     let other = State::empty();
-    check_that(&rt, !state.is_same(&other), "two states");
     check_session(&rt, &other, &state);
     check_session(&rt, &state, &other);
     let copy = state.clone().expect(&rt, "memory");

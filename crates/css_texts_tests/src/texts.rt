@@ -7,7 +7,7 @@ use css_cii::{CiiFault, CiiName, read_message, write_message};
 use css_num::{Control, Memory, Text};
 use css_player::PlayerFault;
 use css_tsmsg::{
-    Bound, Presentation, TsFault, TsName, is_same, read_control, read_presentation, read_setup,
+    Bound, Presentation, TsFault, TsName, read_control, read_presentation, read_setup,
     write_control, write_presentation, write_setup,
 };
 use std::alloc::Global;
@@ -312,8 +312,6 @@ fn times_are_read_as_values(rt: HostRuntime) {
     let text = with_names(&rt, rt.alloc(), r#"{C:"900000",W:"10000000000",S:1.0}"#);
     let read = read_control(rt.alloc(), text.as_bytes());
     check_that(&rt, read == Ok(CONTROL), "a control");
-    check_that(&rt, is_same(&CONTROL, &CONTROL), "the same");
-    check_that(&rt, !is_same(&CONTROL, &Control::Unavailable), "another");
     let text = r#"{E:{C:"900000",W:"10040000000"},L:{C:"900001",W:"plusinfinity"}}"#;
     let text = with_names(&rt, rt.alloc(), text);
     let presentation = Presentation {

@@ -24,9 +24,9 @@ use Rattle.css_tsmsg.specs.declared.bound.Bound.{Bound}
 use Rattle.css_tsmsg.specs.declared.bound.Bound.TheVariants.{At, MinusInfinity, PlusInfinity}
 use Rattle.css_tsmsg.specs.declared.bound.Presentation.{Presentation}
 use Rattle.css_tsmsg.specs.declared.setup.Setup.{Setup}
-use Rattle.css_tsmsg.proofs.RoundTrips.{control_plain, control_shallow, control_back, control_text_is}
-use Rattle.css_tsmsg.proofs.RoundTrips.{setup_plain, setup_shallow, setup_back, setup_text_is}
-use Rattle.css_tsmsg.proofs.Windows.{presentation_plain, presentation_shallow, presentation_back, presentation_text_is}
+use Rattle.css_tsmsg.proofs.RoundTrips.{control_plain, control_shallow, control_back, control_text-is}
+use Rattle.css_tsmsg.proofs.RoundTrips.{setup_plain, setup_shallow, setup_back, setup_text-is}
+use Rattle.css_tsmsg.proofs.Windows.{presentation_plain, presentation_shallow, presentation_back, presentation_text-is}
 
 -- the words of a wall time are ASCII
 wall_utf8 : (n : ℕ) → n < 2 ^ 64 → IsUtf8 (decimal n)
@@ -67,7 +67,7 @@ control_ordered Unavailable = (tt, tt, ((refl, tt), tt, ((refl, (refl, tt)), tt,
 -- so its text is read as that control timestamp
 pub control_reads : (c : Control) → IsInRange c → control_of (control_text c) ≡ Ok c
 control_reads c h =
-    let is = control_text_is c in
+    let is = control_text-is c in
     let plain = control_plain c h in
     let members = object_compact (control_data c) plain (control_shallow c) (control_utf8 c h) (control_ordered c) in
     control_back c (control_text c) h (ap object_of (sym is) ∙ members)
@@ -84,7 +84,7 @@ setup_ordered s = (tt, tt, ((refl, tt), tt, tt))
 -- so its text is read as that setup
 pub setup_reads : (s : Setup) → IsUtf8Setup s → setup_of (setup_text s) ≡ Ok s
 setup_reads s h =
-    let is = setup_text_is s in
+    let is = setup_text-is s in
     let members = object_compact (setup_data s) (setup_plain s) (setup_shallow s) (setup_utf8 s h) (setup_ordered s) in
     setup_back s (setup_text s) (ap object_of (sym is) ∙ members)
 
@@ -149,7 +149,7 @@ window_ordered earliest latest (Some actual) = (
 -- so the text of a presentation is read as that presentation
 pub presentation_reads : (p : Presentation) → IsPresentation p → presentation_of (presentation_text p) ≡ Ok p
 presentation_reads p h =
-    let is = presentation_text_is p in
+    let is = presentation_text-is p in
     let utf8 = window_utf8 p.earliest p.latest p.actual h.earliest h.latest h.actual in
     let ordered = window_ordered p.earliest p.latest p.actual in
     let members = object_compact (presentation_data p) (presentation_plain p) (presentation_shallow p) utf8 ordered in

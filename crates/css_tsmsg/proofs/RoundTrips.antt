@@ -138,9 +138,9 @@ control_back c text h told none =
     ap₂ (λ members odd. control_or_fault members (nat_lt 0 odd)) told none ∙ members_back c h
 
 -- the text is that of the definition
-pub control_text_is : (c : Control) → compact_text (control_data c) ≡ control_text c
+pub control_text-is : (c : Control) → compact_text (control_data c) ≡ control_text c
 unfolding control_text
-control_text_is c = refl
+control_text-is c = refl
 
 -- ---- setups
 
@@ -159,6 +159,6 @@ unfolding setup_of setup_in
 setup_back s text told = ap setup_or_fault told
 
 -- the text is that of the definition
-pub setup_text_is : (s : Setup) → compact_text (setup_data s) ≡ setup_text s
+pub setup_text-is : (s : Setup) → compact_text (setup_data s) ≡ setup_text s
 unfolding setup_text
-setup_text_is s = refl
+setup_text-is s = refl

@@ -155,9 +155,9 @@ pub presentation_shallow : (p : Presentation) → depth (presentation_data p) �
 presentation_shallow p = data_shallow p.earliest p.latest p.actual
 
 -- the text is that of the definition
-pub presentation_text_is : (p : Presentation) → compact_text (presentation_data p) ≡ presentation_text p
+pub presentation_text-is : (p : Presentation) → compact_text (presentation_data p) ≡ presentation_text p
 unfolding presentation_text
-presentation_text_is p = refl
+presentation_text-is p = refl
 
 -- the bound of a form whose content time is in range
 pub bound_by : (end : TsName) (form : Form) → length (without_minus form.content) ≤ 18

@@ -1,4 +1,4 @@
-ghost use Rattle.std.specs.Prelude.{◌≡◌, ◌↔◌, IsTrue, true, option_copied, IfOk};
+ghost use Rattle.std.specs.Prelude.{◌≡◌, true, option_copied, IfOk};
 ghost use Rattle.serde_json.specs.View.{members_view};
 ghost use Rattle.css_num.specs.Gives.{GivesBy};
 ghost use Rattle.css_tsmsg.specs.Controls as controls;
@@ -144,11 +144,4 @@ pub fn read_control(alloc: Global, bytes: &[u8]) -> Result<Control, TsFault>
     }
     let read = read_object(alloc, bytes)?;
     control_in(alloc, &read.map, read.odd > 0)
-}
-
-/// Whether two control timestamps are equal.
-pub fn is_same(one: &Control, other: &Control) -> bool
-    ensures { IsTrue result ↔ (one.now ≡ other.now) }
-{
-    *one == *other
 }

@@ -14,7 +14,7 @@ mod writing;
 mod written;
 
 pub use bound::{Bound, Presentation};
-pub use control::{is_same, read_control};
+pub use control::read_control;
 pub use css_num::Control;
 pub use fault::TsFault;
 pub use name::TsName;

@@ -3,8 +3,8 @@ use Rattle.std.proofs.Common.{Bool, Decides, ◌≡◌, ◌∙◌, ap, sym, subs
 use Rattle.std.proofs.lemmas.Result.{IfOk-weaker}
 use Rattle.css_cii.specs.States.{applied, is_empty, TellsDifference}
 use Rattle.css_cii.specs.Texts.{IsUtf8Change}
-use Rattle.css_cii.proofs.Sessions.{difference-exact, applied-difference, empty_difference}
-use Rattle.css_cii.proofs.Same.{is_same_state-Decides}
+use Rattle.css_cii.proofs.Sessions.{difference-exact, applied-difference}
+use Rattle.css_cii.proofs.Same.{is_empty-Decides}
 use Rattle.css_cii.proofs.Utf8.{difference-utf8}
 use Rattle.css_cii.proofs.merging.diff.Goals as goal
 
@@ -25,6 +25,5 @@ pub returns-clause-empty : goal.returns-clause-empty
 returns-clause-empty c = IfOk-weaker c.difference.result _ _
     (λ change is.
     let P : Bool → Type 0 = λ same. Decides same (c.args.old.now ≡ c.args.new.now) in
-    subst P (sym (ap is_empty is ∙ empty_difference c.args.old.now c.args.new.now))
-    (is_same_state-Decides c.args.old.now c.args.new.now))
+    subst P (sym (ap is_empty is)) (is_empty-Decides c.args.old.now c.args.new.now))
     c.difference.ensures

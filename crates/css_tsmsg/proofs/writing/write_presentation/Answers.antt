@@ -6,7 +6,7 @@ use Rattle.serde_json.specs.Read.{max_depth}
 use Rattle.serde_json.specs.Written.{compact_text}
 use Rattle.css_text.specs.CompactTexts.{IsPlain}
 use Rattle.css_text.specs.Readings.{members_or_fault}
-use Rattle.css_tsmsg.proofs.Windows.{presentation_plain, presentation_shallow, presentation_back, presentation_text_is}
+use Rattle.css_tsmsg.proofs.Windows.{presentation_plain, presentation_shallow, presentation_back, presentation_text-is}
 use Rattle.css_tsmsg.proofs.writing.write_presentation.Goals as goal
 
 pub write_value-requires-clause-plain : goal.write_value-requires-clause-plain
@@ -21,7 +21,7 @@ write_value-requires-clause-shallow c =
 pub returns-clause-text : goal.returns-clause-text
 returns-clause-text c =
     IfOk-weaker c.write_value.result _ _ (λ text is.
-    is ∙ ap compact_text c.in_ok-value.ensures ∙ presentation_text_is c.args.presentation.now)
+    is ∙ ap compact_text c.in_ok-value.ensures ∙ presentation_text-is c.args.presentation.now)
     c.write_value.ensures.text
 
 pub returns-clause-read_back : goal.returns-clause-read_back

@@ -6,7 +6,7 @@ use Rattle.serde_json.specs.Read.{max_depth}
 use Rattle.serde_json.specs.Written.{compact_text}
 use Rattle.css_text.specs.CompactTexts.{IsPlain}
 use Rattle.css_text.specs.Readings.{members_or_fault}
-use Rattle.css_tsmsg.proofs.RoundTrips.{setup_plain, setup_shallow, setup_back, setup_text_is}
+use Rattle.css_tsmsg.proofs.RoundTrips.{setup_plain, setup_shallow, setup_back, setup_text-is}
 use Rattle.css_tsmsg.proofs.writing.write_setup.Goals as goal
 
 pub write_value-requires-clause-plain : goal.write_value-requires-clause-plain
@@ -20,7 +20,7 @@ write_value-requires-clause-shallow c =
 pub returns-clause-text : goal.returns-clause-text
 returns-clause-text c =
     IfOk-weaker c.write_value.result _ _ (λ text is.
-    is ∙ ap compact_text c.in_ok-value.ensures ∙ setup_text_is c.args.setup.now) c.write_value.ensures.text
+    is ∙ ap compact_text c.in_ok-value.ensures ∙ setup_text-is c.args.setup.now) c.write_value.ensures.text
 
 pub returns-clause-read_back : goal.returns-clause-read_back
 returns-clause-read_back c = IfOk-weaker c.write_value.result _ _
