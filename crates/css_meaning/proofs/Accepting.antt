@@ -1,7 +1,6 @@
 -- The drifts accept the lines, and the lines are a world.
-use Rattle.std.proofs.Common.{◌≡◌, ℕ, ◌<◌, ◌≤◌, arith, ap, sym, subst, ◌∙◌, Bool, inl, inr}
-use Rattle.std.proofs.Common.{true, false, List, [], ◌∷◌, length}
-use Rattle.std.specs.Prelude.{Some}
+use Rattle.std.proofs.Common.{◌≡◌, ℕ, ◌<◌, ◌≤◌, arith, ap, sym, ◌∙◌, Bool, inl, inr, true, false, List, [], ◌∷◌}
+use Rattle.std.proofs.Common.{length, Some}
 use Rattle.std.proofs.lemmas.Bool.Decides.{eqb_tells}
 use Rattle.css_model.specs.World.{Moment, OwnClock, KeepsErrors}
 use Rattle.css_moments.specs.Drifts as drifts
@@ -11,7 +10,7 @@ use Rattle.css_schedule.specs.Owners.{is_sleep}
 use Rattle.css_schedule.specs.declared.header.Header.{Header}
 use Rattle.css_meaning.specs.Happened.{Numbered}
 use Rattle.css_meaning.specs.Worlds.{world_of, errors_of}
-use Rattle.css_meaning.specs.Clocks.{Seen, told_with, told_by}
+use Rattle.css_meaning.specs.Clocks.{told_with, told_by}
 use Rattle.css_meaning.specs.Verdicts.{seen_of_tv, seen_of, local_of}
 use Rattle.css_meaning.specs.Accepted.{AreAccepted, IsNext}
 use Rattle.css_meaning.proofs.Worlds.{world-older, world-now, place, tested_ok, tv_shown-ok, own_shown-ok, seen_own}
@@ -46,13 +45,10 @@ pub next_own : (header : Header) (who number : ℕ) (older : List Numbered) → 
     → drifts.IsNext (drifts.last_shown (told_by (seen_of who older))) number
 next_own header who number [] accepted next = tt
 next_own header who number (last ∷ older) accepted next = elim (eqb_tells last.line.who who) [
-  | inl own ↦
-      subst (λ (seen : List Seen). drifts.IsNext (drifts.last_shown (told_by seen)) number)
-      (sym (seen_own last older who own.1)) next
+  | inl own ↦ rw (seen_own last older who own.1) next
   | inr other ↦
-      subst (λ (seen : List Seen). drifts.IsNext (drifts.last_shown (told_by seen)) number)
-      (sym (seen_other last older who other.1))
-      (next_own header who number older accepted.4 (next_older number last older accepted.2 next))
+      rw (seen_other last older who other.1) (next_own header who number older accepted.4
+      (next_older number last older accepted.2 next))
 ]
 
 -- a sleep before it changes neither
@@ -75,14 +71,12 @@ own_accepted header who (now ∷ older) first accepted = elim (eqb_tells now.lin
       let error = (local_of who header).error in
       let told = told_by (seen_of who older) in
       let woke = is_sleep now.line.verb in
-      subst (λ (seen : List Seen). drifts.IsAccepted error (told_by seen)) (sym (seen_own now older who own.1)) (
+      rw (seen_own now older who own.1) (
         asleep_next woke told now.number (next_own header who now.number older accepted.4 accepted.2),
         own_shown-ok header older now who first own.1 (tested_ok header older now accepted.3.0 accepted.3.1),
         asleep_accepted error woke told (own_accepted header who older first accepted.4),
       )
-  | inr other ↦
-      subst (λ (seen : List Seen). drifts.IsAccepted (local_of who header).error (told_by seen))
-      (sym (seen_other now older who other.1)) (own_accepted header who older first accepted.4)
+  | inr other ↦ rw (seen_other now older who other.1) (own_accepted header who older first accepted.4)
 ]
 
 -- ---- the world

@@ -1,21 +1,16 @@
 -- What both ends did at accepted lines, by their last line.
-use Rattle.std.proofs.Common.{◌≡◌, ◌≢◌, ℕ, refl, ap, Bool, true, false, cond, List, ◌∷◌, ◌++◌}
-use Rattle.std.proofs.Common.{ne_eqb}
-use Rattle.std.specs.Prelude.{Result, Ok, Err}
-use Rattle.std.specs.Option.{option_to_list}
-use Rattle.std.specs.Result.{result_and}
-use Rattle.std.proofs.lemmas.Bool.{and_parts, eq-eqb}
-use Rattle.css_model.specs.declared.Message.{Message}
+use Rattle.std.proofs.Common.{◌≡◌, ◌≢◌, ℕ, refl, ap, Bool, true, false, cond, List, ◌∷◌, ◌++◌, ne_eqb, Result}
+use Rattle.std.proofs.Common.{Ok, Err, eq-eqb, option_to_list}
+use Rattle.std.proofs.lemmas.Bool.{and_parts}
 use Rattle.css_model.specs.History.{History}
 use Rattle.css_tv.specs.declared.event.TvEvent.{TvEvent}
 use Rattle.css_schedule.specs.declared.header.Header.{Header}
 use Rattle.css_schedule.specs.declared.line.Verb.{Verb}
-use Rattle.css_schedule.specs.Ranges.{IsVerb}
 use Rattle.css_meaning.specs.declared.fault.WorldFault.TheVariants.{Absent}
 use Rattle.css_meaning.specs.Happened.{Numbered, datagrams, event_by, done_by, events_of, history_of}
-use Rattle.css_meaning.specs.Verdicts.{tested, can_exchange, can_talk, can_happen}
-use Rattle.css_meaning.specs.Verdicts.{carried_out}
+use Rattle.css_meaning.specs.Verdicts.{can_exchange, can_talk, can_happen}
 use Rattle.css_meaning.specs.Accepted.{AreAccepted}
+use Rattle.css_meaning.proofs.Worlds.{carried_ok}
 
 -- ---- one line more
 -- the television's events after a verb of companion `who`
@@ -48,30 +43,31 @@ history_other header now older who other =
     ap (λ b. cond b done own) (ne_eqb now.line.who who other)
 
 -- ---- what is accepted
--- where both are Ok, so is the second
-second_ok : {A B E : Type 0} (r : Result A E) (s : Result B E) (y : B) → result_and r s ≡ Ok y → s ≡ Ok y
-second_ok (Ok x) s y e = e
-second_ok (Err f) s y e = absurd (cc)
-
 -- what ends in Ok took the first branch
 then_ok : {A E : Type 0} (b : Bool) (r : Result A E) (f : E) (y : A) → cond b r (Err f) ≡ Ok y → b ≡ true
 then_ok true r f y e = refl
 then_ok false r f y e = absurd (cc)
 
--- what an accepted line says can happen between the ends
-pub can_talk_now : (header : Header) (now : Numbered) (older : List Numbered) → AreAccepted header (now ∷ older)
-    → can_talk now.line.who (events_of header older) (history_of now.line.who header older) now.line.verb ≡ true
-can_talk_now header now older accepted =
-    let carried = second_ok (tested header older now) (carried_out header older now) accepted.3.0 accepted.3.1 in
-    let who = now.line.who in
-    let can : can_happen header older who now.line.verb ≡ true =
-    then_ok (can_happen header older who now.line.verb) _ Absent accepted.3.0 carried in
-    (and_parts (can_exchange header older who now.line.verb)
-    (can_talk who (events_of header older) (history_of who header older) now.line.verb) can).1
+-- what an accepted line says can happen
+can_happen_now : (header : Header) (now : Numbered) (older : List Numbered) (who : ℕ) → now.line.who ≡ who
+    → AreAccepted header (now ∷ older) → can_happen header older who now.line.verb ≡ true
+can_happen_now header now older who own accepted =
+    rw own at (then_ok (can_happen header older now.line.who now.line.verb) _ Absent accepted.3.0
+    (carried_ok header older now accepted.3.0 accepted.3.1))
 
--- ---- all lines
--- what each verb of companion `who` keeps that can happen
-abbrev pub IsKeptByVerbs : Header → ℕ → (List TvEvent → History → Type 0) → Type 0
-IsKeptByVerbs header who P = (made : List Message) (verb : Verb) (events : List TvEvent) (own : History)
-    → IsVerb verb → can_talk who events own verb ≡ true → P events own
-    → P (events_with who events own verb) (done_by header who made events verb own)
+-- of requests, takes and datagrams
+pub can_exchange_now : (header : Header) (now : Numbered) (older : List Numbered) (who : ℕ) → now.line.who ≡ who
+    → AreAccepted header (now ∷ older) → can_exchange header older who now.line.verb ≡ true
+can_exchange_now header now older who own accepted =
+    (and_parts (can_exchange header older who now.line.verb)
+    (can_talk who (events_of header older) (history_of who header older) now.line.verb)
+    (can_happen_now header now older who own accepted)).0
+
+-- and between the ends
+pub can_talk_now : (header : Header) (now : Numbered) (older : List Numbered) (who : ℕ) → now.line.who ≡ who
+    → AreAccepted header (now ∷ older)
+    → can_talk who (events_of header older) (history_of who header older) now.line.verb ≡ true
+can_talk_now header now older who own accepted =
+    (and_parts (can_exchange header older who now.line.verb)
+    (can_talk who (events_of header older) (history_of who header older) now.line.verb)
+    (can_happen_now header now older who own accepted)).1

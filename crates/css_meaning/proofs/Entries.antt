@@ -1,9 +1,8 @@
 -- What an entry of one session tells of it, and of another one.
-use Rattle.std.proofs.Common.{◌≡◌, ℕ, ap, refl, Bool, true, false, cond, not, ◌==◌, List, ◌∷◌}
-use Rattle.std.specs.Prelude.{◌||◌, ◌&&◌, Some, None, is_some}
+use Rattle.std.proofs.Common.{◌≡◌, ℕ, ap, refl, Bool, true, false, cond, not, ◌==◌, List, ◌∷◌, arith, ◌||◌, ◌&&◌, Some}
+use Rattle.std.proofs.Common.{None, is_some, eq-eqb}
 use Rattle.std.specs.List.{cons_option}
 use Rattle.std.specs.Option.{option_or}
-use Rattle.std.proofs.lemmas.Bool.{eq-eqb}
 use Rattle.css_model.specs.declared.Kind.{Kind as Dialling}
 use Rattle.css_model.specs.History.{History, Dialled, Heard, Wrote, Closed}
 use Rattle.css_tv.specs.declared.event.TvEvent.{TvEvent}
@@ -87,9 +86,4 @@ concerns peer _ = false
 -- an event that isn't of a session brings no text of it
 pub received_not : (peer : ℕ) (e : TvEvent) (events : List TvEvent) → concerns peer e ≡ false
     → received_from peer (e ∷ events) ≡ received_from peer events
-received_not peer (event.Programme content_id) events other = refl
-received_not peer (event.AddTimeline n selector rate base) events other = refl
-received_not peer (event.Viewer command reading) events other = refl
-received_not peer (event.Opened p k) events other = refl
-received_not peer (event.Heard p bytes) events other = received-apart peer p other bytes events
-received_not peer (event.Closed p) events other = refl
+received_not peer e events other = grind (arith, other)

@@ -1,9 +1,7 @@
 -- What a session was told only grows.
-use Rattle.std.proofs.Common.{◌≡◌, ℕ, refl, ap, sym, subst, ◌∙◌, append_assoc, Bool, true, false, cond, ◌==◌}
-use Rattle.std.proofs.Common.{List, [], ◌∷◌, ◌++◌}
-use Rattle.std.specs.Prelude.{Option, Some, None, IfSome, option_map, Result, Ok, Err, reverse}
-use Rattle.std.specs.Option.{option_to_list}
-use Rattle.std.proofs.lemmas.Bool.{eqb-true}
+use Rattle.std.proofs.Common.{◌≡◌, ℕ, refl, ap, sym, subst, ◌∙◌, append_assoc, Bool, true, false, cond, ◌==◌, List, []}
+use Rattle.std.proofs.Common.{◌∷◌, ◌++◌, Option, Some, None, IfSome, option_map, Result, Ok, Err, reverse, eqb-true}
+use Rattle.std.proofs.Common.{option_to_list}
 use Rattle.std.proofs.lemmas.List.{append-nil}
 use Rattle.css_num.specs.declared.control.Control.{Control}
 use Rattle.css_player.specs.Player.{Player}
@@ -13,13 +11,12 @@ use Rattle.css_tsmsg.specs.declared.setup.Setup.{Setup}
 use Rattle.css_num.specs.declared.protocol.Kind.{Kind}
 use Rattle.css_sessions.specs.Offsets.{control_for}
 use Rattle.css_sessions.specs.Kept.{Event as SessionsCall, Opened, SetUp, Published, Closed, Presented, Dropped}
-use Rattle.css_sessions.specs.Kept.{same_control, step_of}
+use Rattle.css_sessions.specs.Kept.{same_control}
 use Rattle.css_sessions.specs.ReadBack.{cii_states, ts_controls}
-use Rattle.css_sessions.specs.Told.{Life, CiiLife, Unset, TsLife, Lived, born, set_life, grown_life, living, ended}
-use Rattle.css_sessions.specs.Told.{when, latest}
-use Rattle.css_sessions.specs.Told.{life_of, state_of, texts_of, said_to, sessions_of, IsAccepted, IsLawful}
-use Rattle.css_sessions.proofs.Telling.{told_now}
-use Rattle.css_tv.specs.Outcomes.{Outcome, outcome_at}
+use Rattle.css_sessions.specs.Told.{TsLife, set_life, grown_life, state_of, texts_of, sessions_of, IsAccepted, IsLawful}
+use Rattle.css_sessions.specs.Told.{Life, CiiLife, Unset, Lived, born, living, ended, when, latest, life_of, said_to}
+use Rattle.css_tv.proofs.More.{texts_all}
+use Rattle.css_tv.specs.Outcomes.{Outcome, outcome_at, said_after}
 use Rattle.css_tv.specs.Standing.{Calls, calls_of, with_outcome}
 use Rattle.css_tv.specs.declared.event.TvEvent.{TvEvent}
 use Rattle.css_tv.specs.declared.fault.TvFault.{TvFault}
@@ -57,12 +54,8 @@ module _ {A : Type 0} where
 -- the texts of lawful calls grow
 texts_grow : (peer : ℕ) (calls h : List SessionsCall) → IsLawful (calls ++ h)
     → Grows (texts_of peer h) (texts_of peer (calls ++ h))
-texts_grow peer [] h lawful = grows_not (texts_of peer h)
-texts_grow peer (call ∷ calls) h lawful =
-    let before = texts_of peer (calls ++ h) in
-    let said = (step_of call (sessions_of (calls ++ h))).said in
-    grows_on (texts_of peer h) before (texts_of peer (call ∷ (calls ++ h))) (texts_grow peer calls h lawful.0)
-    (record { news = reverse (said_to peer said); is = told_now call (calls ++ h) lawful peer })
+texts_grow peer calls h lawful =
+    record { news = reverse (said_to peer (said_after calls (sessions_of h))); is = texts_all calls h lawful peer }
 
 -- ---- states and controls
 -- the published controls that a session was told, the newest first

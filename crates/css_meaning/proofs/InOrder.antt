@@ -3,7 +3,7 @@ use Rattle.std.proofs.Common.{◌≡◌, ℕ, ◌+◌, ◌-◌, ◌≤◌, drop,
 use Rattle.std.proofs.Common.{Bool, true, false, cond, List, [], ◌∷◌, ◌++◌, length, length-append}
 use Rattle.std.specs.Prelude.{Option, Some, None, IfSome, is_some, Result, Ok}
 use Rattle.std.specs.Option.{option_or, option_map, option_to_list}
-use Rattle.std.proofs.lemmas.Bool.{and_parts}
+use Rattle.std.proofs.lemmas.Bool.{and_parts, not-true}
 use Rattle.css_model.specs.declared.Kind.{Kind as Dialling}
 use Rattle.css_model.specs.declared.Kind.TheVariants as session
 use Rattle.css_model.specs.declared.Message.{Message}
@@ -31,14 +31,15 @@ use Rattle.css_schedule.specs.Ranges.{IsCount}
 use Rattle.css_schedule.specs.declared.line.Verb.{Verb}
 use Rattle.css_schedule.specs.declared.line.Verb.TheVariants as verb
 use Rattle.css_meaning.specs.Arrived.{states_of_lived, states_come, IsToldInOrder}
-use Rattle.css_meaning.specs.Sessions.{addresses, peer_of, setup_of, is_open, was_opened, heard_from, told_to, next_down}
+use Rattle.css_meaning.specs.Sessions.{addresses, peer_of, setup_of, is_open, was_opened, heard_from, told_to}
+use Rattle.css_meaning.specs.Sessions.{next_down}
 use Rattle.css_meaning.specs.Happened.{Numbered, hearing, event_by, done_by, events_of, history_of}
 use Rattle.css_meaning.specs.Verdicts.{IsDeclared, can_talk}
 use Rattle.css_meaning.specs.Accepted.{AreAccepted}
 use Rattle.css_meaning.proofs.Peers.{cii_of, ts_of, cii-ts, ts-cii}
 use Rattle.css_meaning.proofs.Entries.{heard-one, heard-apart}
 use Rattle.css_meaning.proofs.Ends.{events_with}
-use Rattle.css_meaning.proofs.Staging.{IsStaged, IsSound, sound_by, not_true}
+use Rattle.css_meaning.proofs.Staging.{IsStaged, IsSound, sound_by}
 use Rattle.css_meaning.proofs.Staged.{IsKeptBy, IsKeptApart, each_end}
 use Rattle.css_meaning.proofs.Growing.{controls_of_life, controls_of_lived, LifeGrows, some_grows}
 use Rattle.css_meaning.proofs.Lives.{lived_after}
@@ -52,11 +53,9 @@ use Rattle.css_meaning.proofs.Telling.{controls_told}
 -- each text of a CSS-CII session tells its state
 cii_told : (k : Option Dialling) (live : Bool) (lived : Option Lived) → HasCii k live lived → AreReadBack lived
     → AreSaid TellsAfter (texts_of_lived lived) (states_of_lived lived)
-cii_told None live lived has read =
-    subst (λ (o : Option Lived). AreSaid TellsAfter (texts_of_lived o) (states_of_lived o)) (sym has.0) tt
+cii_told None live lived has read = rw has.0 tt
 cii_told (Some session.Cii) live lived has read =
-    subst (λ (o : Option Lived). AreSaid TellsAfter (texts_of_lived o) (states_of_lived o)) (sym has.is)
-    (states_told has.first has.later (subst AreReadBack has.is read) has.addressed)
+    rw has.is (states_told has.first has.later (rw has.is at read) has.addressed)
 cii_told (Some _) live lived has read = absurd has
 
 -- each text of a life of CSS-TS reads as its control
@@ -71,11 +70,9 @@ life_told setup received (TsLife u p ps) of read = controls_told u p ps read
 -- so does each text of a CSS-TS session
 ts_told : (setup : Setup) (k : Option Dialling) (live : Bool) (lived : Option Lived) (x : Exchanged)
     → HasTs setup k live lived x → AreReadBack lived → AreSaid ReadsAs (texts_of_lived lived) (controls_of_lived lived)
-ts_told setup None live lived x has read =
-    subst (λ (o : Option Lived). AreSaid ReadsAs (texts_of_lived o) (controls_of_lived o)) (sym has.life) tt
+ts_told setup None live lived x has read = rw has.life tt
 ts_told setup (Some session.Ts) live lived x has read =
-    subst (λ (o : Option Lived). AreSaid ReadsAs (texts_of_lived o) (controls_of_lived o)) (sym has.is)
-    (life_told setup x.received has.life has.of (subst AreReadBack has.is read))
+    rw has.is (life_told setup x.received has.life has.of (rw has.is at read))
 ts_told setup (Some _) live lived x has read = absurd has
 
 -- ---- what was heard
@@ -130,8 +127,7 @@ hears_on who old new own one two before =
 hears_as : (events : List TvEvent) (who : ℕ) (own : History) (cii ts cii_now ts_now : List (List ℕ)) → cii_now ≡ cii
     → ts_now ≡ ts → HearsSo events who own cii ts → HearsSo events who own cii_now ts_now
 hears_as events who own cii ts cii_now ts_now one two is =
-    subst (λ texts. HearsSo events who own texts ts_now) (sym one)
-    (subst (λ texts. HearsSo events who own cii texts) (sym two) is)
+    rw one (rw two is)
 
 module _ (header : Header) (who : ℕ) (first : 1 ≤ who) (events : List TvEvent) (own : History)
     (talked : HasTalked header who events own) where
@@ -185,8 +181,7 @@ module _ (header : Header) (who : ℕ) (first : 1 ≤ who) (events : List TvEven
       λ o states. TellsNewest o states (λ earlier. TellsStates earlier own) in
       let so : HearsSo events who after (bytes ∷ heard_from cii own) (heard_from ts own) = record {
         cii_few = comes.few;
-        tells = subst (λ o. Newest o (come (bytes ∷ heard_from cii own) (states_after who events))) (sym text)
-            (subst (Newest (Some bytes)) (sym comes.now) (comes.says, before.tells));
+        tells = rw text (rw comes.now (comes.says, before.tells));
         ts_few = before.ts_few;
         control = ap (λ o. option_or (option_map control_of o) (control_by own)) none ∙ before.control;
       } in
@@ -255,26 +250,14 @@ hears_by header who made v events own first can before = by v can where
   opened : (k : Kind) → can_talk who events own (verb.Opening k) ≡ true
       → IsHearing who events (done_by header who made events (verb.Opening k) own)
   opened kind.Cii can = silent _ same.cii_few same.tells same.ts_few same.control
-  opened kind.Ts can = silent _ same.cii_few same.tells same.ts_few (untold (not_true _ can))
+  opened kind.Ts can = silent _ same.cii_few same.tells same.ts_few (untold (not-true _ can))
 
   by : (v : Verb) → can_talk who events own v ≡ true → IsHearing who events (done_by header who made events v own)
-  by (verb.Ask reading) can = silent _ same.cii_few same.tells same.ts_few same.control
-  by (verb.Take request reading) can = same
-  by (verb.Give take reading) can = same
-  by (verb.Land datagram reading) can = silent _ same.cii_few same.tells same.ts_few same.control
-  by (verb.Wall reading) can = silent _ same.cii_few same.tells same.ts_few same.control
-  by (verb.Print reading) can = silent _ same.cii_few same.tells same.ts_few same.control
-  by (verb.Programme content_id) can = same
-  by (verb.Timeline n selector rate base) can = same
-  by (verb.Viewer reading command) can = same
   by (verb.Opening k) can = opened k can
   by (verb.Bring k) can =
       hears header who first events own before.talked k (next_down who k events own)
       (and_parts (is_open (peer_of who k) own) (is_some (next_down who k events own)) can).0 refl same
-  by verb.Up can = same
-  by (verb.Present earliest latest) can = silent _ same.cii_few same.tells same.ts_few same.control
-  by (verb.Close k) can = silent _ same.cii_few same.tells same.ts_few same.control
-  by verb.Sleep can = silent _ same.cii_few same.tells same.ts_few same.control
+  by _ can = silent _ same.cii_few same.tells same.ts_few same.control
 
 -- what a session of whatever peer was told grows where there may be an event
 grows_by : (peer : ℕ) (o : Option TvEvent) (events : List TvEvent) → IsStaged addresses (calls_of addresses events)

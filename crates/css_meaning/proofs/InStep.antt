@@ -1,8 +1,7 @@
 -- Where all has come to a companion, it assigns the position that the television published.
-use Rattle.std.proofs.Common.{◌≡◌, ◌≢◌, ℕ, zero, ◌-◌, ◌<◌, ◌≤◌, refl, ap, sym, subst, ◌∙◌, arith}
-use Rattle.std.proofs.Common.{Bool, true, false, List, [], ◌∷◌, length, take, drop, length-take}
-use Rattle.std.specs.Prelude.{ℤ, pos, ◌≤ℤ◌, Option, Some, None, IfSome, Result, Ok, bytes_eq}
-use Rattle.std.specs.Option.{option_and_then}
+use Rattle.std.proofs.Common.{◌≡◌, ◌≢◌, ℕ, zero, ◌-◌, ◌<◌, ◌≤◌, refl, ap, sym, subst, ◌∙◌, arith, Bool, true, false}
+use Rattle.std.proofs.Common.{List, [], ◌∷◌, length, take, drop, length-take, ℤ, pos, ◌≤ℤ◌, Option, Some, None, IfSome}
+use Rattle.std.proofs.Common.{Result, Ok, bytes_eq, option_and_then}
 use Rattle.css_model.specs.History.{History}
 use Rattle.css_num.specs.declared.control.Control.{Control}
 use Rattle.css_num.specs.declared.control.Control.TheVariants.{Available, Unavailable}
@@ -38,8 +37,8 @@ use Rattle.css_meaning.proofs.Growing.{controls_of_lived}
 use Rattle.css_meaning.proofs.Lives.{shown_after, lived_after}
 use Rattle.css_meaning.proofs.Talking.{lived_as, IsLifeOf, Shows, cii_live, ts_live}
 use Rattle.css_meaning.proofs.Telling.{ReadsAs, TellsAfter, as_many, come}
-use Rattle.css_meaning.proofs.InOrder.{IsInOrder, in_order, newest, states_after, controls_after}
-use Rattle.css_meaning.proofs.InOrder.{back, states_said, controls_said}
+use Rattle.css_meaning.proofs.InOrder.{IsInOrder, in_order, newest, states_after, controls_after, back, states_said}
+use Rattle.css_meaning.proofs.InOrder.{controls_said}
 use Rattle.css_meaning.proofs.Rated.{same_tick, shown_at}
 
 -- ---- what is in flight
@@ -181,8 +180,7 @@ track_found selector (Some p) good = all-find IsPlayableTrack (λ t. bytes_eq t.
 rate_positive : (p : Player) (selector : List ℕ) → IsPlayable p → (t : Track)
     → option_and_then (track_of selector) (present p) ≡ Some t → 0 < t.rate.units_per_tick
 rate_positive p selector playable t is =
-    (subst (λ (o : Option Track). IfSome o IsPlayableTrack) is
-    (track_found selector (present p) (present_playable p playable))).rate.tick_positive
+    (rw is at (track_found selector (present p) (present_playable p playable))).rate.tick_positive
 
 -- what is assigned is the position that is shown, or one less
 shown_if : (setup : Setup) (p : Player) (wall : ℕ) (o : Option ℤ) → IsPlayable p → published_tick setup p wall ≡ o

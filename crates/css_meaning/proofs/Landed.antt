@@ -1,11 +1,8 @@
 -- What lands at accepted lines is truthful.
-use Rattle.std.proofs.Common.{◌≡◌, ℕ, suc, ◌^◌, ◌<◌, ◌≤◌, ◌/◌, ◌%◌, arith, ap, sym, subst, ◌∙◌, refl}
-use Rattle.std.proofs.Common.{Bool, true, false, cond, ◌==◌, List, [], ◌∷◌, ◌++◌, length, inl, inr}
-use Rattle.std.specs.Prelude.{Option, Some, None, IfSome, Result, Ok, ◌&&◌, pos, int_lt, nat_lt, ◌≢◌}
-use Rattle.std.specs.Option.{option_map, option_and_then}
+use Rattle.std.proofs.Common.{◌≡◌, ℕ, suc, ◌^◌, ◌<◌, ◌≤◌, ◌/◌, ◌%◌, arith, ap, sym, subst, ◌∙◌, refl, Bool, true, false}
+use Rattle.std.proofs.Common.{cond, ◌==◌, List, [], ◌∷◌, ◌++◌, length, inr, Option, Some, None, IfSome, Result, Ok}
+use Rattle.std.proofs.Common.{◌&&◌, pos, int_lt, nat_lt, ◌≢◌, le-ltb, lt-ltb, eqb-true, option_map, option_and_then}
 use Rattle.std.specs.Result.{result_ok}
-use Rattle.std.proofs.lemmas.Bool.{le-ltb, lt-ltb, eqb-true}
-use Rattle.std.proofs.lemmas.Bool.Decides.{eqb_tells}
 use Rattle.css_model.specs.declared.TheConstants.{LIMIT}
 use Rattle.css_model.specs.declared.Message.{Message}
 use Rattle.css_model.specs.declared.WcFault.{WcFault}
@@ -14,28 +11,22 @@ use Rattle.css_model.specs.declared.Why.TheVariants as why
 use Rattle.css_model.specs.Numbers.{IsWithin, precision_ns, max_error}
 use Rattle.css_model.specs.World.{World}
 use Rattle.css_model.specs.Wire.{encoded, decoded, stamp_of, second}
-use Rattle.css_model.specs.History.{Entry, History, Clock, Took, Dialled, Heard, Wrote, Closed}
-use Rattle.css_model.specs.History.{Each, LandedAnswer, landed_answer, answer_in, is_asked}
+use Rattle.css_model.specs.History.{Entry, History, Clock, Took, Each, LandedAnswer, landed_answer, answer_in, is_asked}
 use Rattle.css_model.proofs.Lately.{IsIn}
 use Rattle.css_model.proofs.Narrowest.{is_not_less}
 use Rattle.css_wc.proofs.Codec.{IsStamp, decoded-encoded}
 use Rattle.css_server.specs.Tickets.{Ticket, answer_message}
 use Rattle.css_schedule.specs.declared.header.Header.{Header}
 use Rattle.css_schedule.specs.declared.line.Verb.{Verb}
-use Rattle.css_schedule.specs.declared.line.Verb.TheVariants.{Ask, Land, Wall, Print, Opening, Bring, Present, Close}
-use Rattle.css_schedule.specs.declared.line.Verb.TheVariants.{Sleep}
-use Rattle.css_meaning.specs.Happened.{Numbered, server_of, datagrams, made_for, bytes_of, events_of, history_of, peer}
+use Rattle.css_schedule.specs.declared.line.Verb.TheVariants.{Ask, Land}
+use Rattle.css_meaning.specs.Happened.{Numbered, server_of, datagrams, made_for, bytes_of, history_of, peer}
 use Rattle.css_meaning.specs.Numbering.{numbered}
-use Rattle.css_meaning.specs.Verdicts.{is_for, can_exchange}
+use Rattle.css_meaning.specs.Verdicts.{is_for, can_exchange, IsDeclared}
 use Rattle.css_meaning.specs.Accepted.{AreAccepted}
-use Rattle.css_meaning.specs.Verdicts.{IsDeclared}
-use Rattle.css_meaning.proofs.Worlds.{carried_ok}
-use Rattle.css_meaning.proofs.Lawful.{done_at, IsTalk, each_talk}
-use Rattle.css_meaning.proofs.Ends.{history_now, history_other}
-use Rattle.css_meaning.proofs.Tickets.{AreHere}
-use Rattle.css_meaning.proofs.Moments.{Agrees, entries-here}
-use Rattle.css_meaning.proofs.Made.{Made, made, Tells, Plain, Promise, FollowUp, IsMade}
-use Rattle.css_meaning.proofs.Made.{made_each, numbered-made, can-happen, can-exchange}
+use Rattle.css_meaning.proofs.Lawful.{IsTalk, Adds, each_line}
+use Rattle.css_meaning.proofs.Ends.{can_exchange_now}
+use Rattle.css_meaning.proofs.Moments.{Agrees, AreHere, entries-here}
+use Rattle.css_meaning.proofs.Made.{Made, made, Tells, Plain, Promise, FollowUp, IsMade, made_each, numbered-made}
 
 -- ---- datagrams are read back
 is_stamp : (r : ℕ) → r < LIMIT → IsStamp (stamp_of r)
@@ -143,9 +134,8 @@ pub message_back : (world : World) (moment_of : ℕ → ℕ) (header : Header) (
     → decoded (encoded d.message) ≡ Ok d.message
 message_back world moment_of header who lines d declared is =
     let answer = is_answer world moment_of header who lines d is in
-    subst (λ (m : Message). decoded (encoded m) ≡ Ok m) (sym answer.is)
-    (answer_back header d.ticket answer.message_type answer.transmit is.taken.asked declared is.taken.originate
-    is.taken.asked_range is.taken.range answer.range answer.known answer.answer)
+    rw answer.is (answer_back header d.ticket answer.message_type answer.transmit is.taken.asked declared
+    is.taken.originate is.taken.asked_range is.taken.range answer.range answer.known answer.answer)
 
 -- and it is an answer
 pub answer-in : (world : World) (moment_of : ℕ → ℕ) (header : Header) (who : ℕ) (lines : List Numbered) (d : Made)
@@ -214,83 +204,51 @@ in-after : {A : Type 0} (xs ys : List A) (a : A) → IsIn a ys → IsIn a (xs ++
 in-after [] ys a h = h
 in-after (x ∷ xs) ys a h = inr (in-after xs ys a h)
 
--- where a landed answer came from stays known
-came-longer : (header : Header) (who : ℕ) (now : Numbered) (older : List Numbered) (moment_of : ℕ → ℕ)
-    (entry : Entry) (before : History)
-    → CameAt header who older moment_of entry before → CameAt header who (now ∷ older) moment_of entry before
-came-longer header who now older moment_of entry before came = by (landed_answer entry before) came
-  where
-    by : (o : Option LandedAnswer) → IfSome o (λ response. CameFrom header who older moment_of response before)
-        → IfSome o (λ response. CameFrom header who (now ∷ older) moment_of response before)
-    by None h = tt
-    by (Some response) h = (h.0, in-after _ (made header older) h.0 h.1, h.2, h.3, h.4)
-
 -- nothing lands with an entry of a session
 came_talk : (header : Header) (who : ℕ) (lines : List Numbered) (moment_of : ℕ → ℕ) (entry : Entry) (before : History)
     → IsTalk entry → CameAt header who lines moment_of entry before
-came_talk header who lines moment_of (Dialled kind other) before talk = tt
-came_talk header who lines moment_of (Heard other bytes) before talk = tt
-came_talk header who lines moment_of (Wrote other bytes) before talk = tt
-came_talk header who lines moment_of (Closed other) before talk = tt
-came_talk header who lines moment_of _ before talk = absurd talk
+came_talk header who lines moment_of entry before talk = grind (arith, talk)
 
 module _ (world : World) (moment_of : ℕ → ℕ) (header : Header) (who : ℕ) (first : 1 ≤ who)
     (declared : IsDeclared header) where
+  -- what is known of lines where some more led to `all`
+  abbrev AreKnown : List Numbered → List Numbered → Type 0
+  AreKnown all lines =
+      AreAccepted header lines × Agrees world moment_of header who lines
+      × ((d : Made) → IsIn d (made header lines) → IsIn d (made header all))
+
   -- so it is of the entries of one verb
-  came_by : (now : Numbered) (older : List Numbered) (verb : Verb)
-      → AreAccepted header older → Agrees world moment_of header who older → can_exchange header older who verb ≡ true
-      → AreHere moment_of header who older verb
-      → Each (CameAt header who (now ∷ older) moment_of) (history_of who header older)
-      → Each (CameAt header who (now ∷ older) moment_of) (done_at header older who verb)
-  came_by now older (Land datagram reading) accepted agreed can here each =
+  came_by : (all older : List Numbered) (verb : Verb) → AreKnown all older
+      → can_exchange header older who verb ≡ true → AreHere moment_of header who older verb
+      → Adds (CameAt header who all moment_of) (datagrams header older) verb (history_of who header older)
+  came_by all older (Land datagram reading) known can here =
       let h : History = history_of who header older in
       let l = lands header older who datagram can in
-      let is = made_each world moment_of header who older l.d first accepted agreed l.owned l.is_made in
+      let is = made_each world moment_of header who older l.d first known.0 known.1 l.owned l.is_made in
       let bytes : List ℕ = bytes_of (numbered datagram (datagrams header older)) in
       let at : moment_of (suc (length h)) ≡ length older = here (suc (length h)) (omega arith) (omega arith) in
       let answer : answer_in bytes ≡ Some l.d.message =
       ap answer_in l.bytes ∙ answer-in world moment_of header who older l.d declared is in
-      let came : CameFrom header who (now ∷ older) moment_of
+      let came : CameFrom header who all moment_of
       (record { message = l.d.message; reading = reading }) (Took peer bytes ∷ h) =
-      (l.d, in-after _ (made header older) l.d l.is_made, refl, omega (arith, is.before, at), l.owned) in (
-        subst (λ (o : Option LandedAnswer). IfSome o
-            (λ response. CameFrom header who (now ∷ older) moment_of response (Took peer bytes ∷ h)))
-            (sym (landing-is l.d.message bytes reading h answer))
+      (l.d, known.2 l.d l.is_made, refl, omega (arith, is.before, at), l.owned) in (
+        rw (landing-is l.d.message bytes reading h answer)
             (elim (is_asked l.d.message.originate (Took peer bytes ∷ h)) as (λ b. IfSome (landing_if b l.d.message
-            reading) (λ response. CameFrom header who (now ∷ older) moment_of response (Took peer bytes ∷ h)))
+            reading) (λ response. CameFrom header who all moment_of response (Took peer bytes ∷ h)))
             [ true ↦ came | false ↦ tt ]),
-        (tt, each),
+        tt,
       )
-  came_by now older (Ask reading) accepted agreed can here each = (tt, (tt, each))
-  came_by now older (Wall reading) accepted agreed can here each = (tt, each)
-  came_by now older (Print reading) accepted agreed can here each = (tt, each)
-  came_by now older (Opening kind) accepted agreed can here each =
-      each_talk _ header who (datagrams header older) (events_of header older) (Opening kind)
-      (history_of who header older) tt (came_talk header who (now ∷ older) moment_of) each
-  came_by now older (Bring kind) accepted agreed can here each =
-      each_talk _ header who (datagrams header older) (events_of header older) (Bring kind)
-      (history_of who header older) tt (came_talk header who (now ∷ older) moment_of) each
-  came_by now older (Present earliest latest) accepted agreed can here each = (tt, each)
-  came_by now older (Close kind) accepted agreed can here each = (tt, each)
-  came_by now older Sleep accepted agreed can here each = (tt, each)
-  came_by now older _ accepted agreed can here each = each
+  came_by all older (Ask reading) known can here = (tt, tt)
+  came_by all older _ known can here = tt
 
   -- each answer that landed at companion `who` by accepted lines is one of the datagrams made for it
   pub came_each : (lines : List Numbered) → AreAccepted header lines → Agrees world moment_of header who lines
       → Each (CameAt header who lines moment_of) (history_of who header lines)
-  came_each [] accepted agreed = tt
-  came_each (now ∷ older) accepted agreed =
-      let before = each-map (CameAt header who older moment_of) (CameAt header who (now ∷ older) moment_of)
-      (history_of who header older) (came-longer header who now older moment_of) (came_each older accepted.4 agreed.2)
-      in
-      let can = can-exchange header older now.line.who now.line.verb
-      (can-happen header older now accepted.3.0 (carried_ok header older now accepted.3.0 accepted.3.1)) in
-      let CameNow : History → Type 0 = λ h. Each (CameAt header who (now ∷ older) moment_of) h in
-      elim (eqb_tells now.line.who who) [
-        | inl own ↦
-            subst CameNow (sym (history_now header now older who own.1))
-            (came_by now older now.line.verb accepted.4 agreed.2
-            (subst (λ n. can_exchange header older n now.line.verb ≡ true) own.1 can)
-            (entries-here moment_of header who now older own.1 agreed.1) before)
-        | inr other ↦ subst CameNow (sym (history_other header now older who other.1)) before
-      ]
+  came_each lines accepted agreed =
+      each_line header who (CameAt header who lines moment_of) (AreKnown lines)
+      (came_talk header who lines moment_of)
+      (λ now older known. (known.0.4, known.1.2, λ d is. known.2 d (in-after _ (made header older) d is)))
+      (λ now older own known. came_by lines older now.line.verb
+      (known.0.4, known.1.2, λ d is. known.2 d (in-after _ (made header older) d is))
+      (can_exchange_now header now older who own known.0) (entries-here moment_of header who now older own known.1.1))
+      lines (accepted, agreed, λ d is. is)

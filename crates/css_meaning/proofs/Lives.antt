@@ -1,7 +1,6 @@
 -- What an event of the television does to the life of a session.
-use Rattle.std.proofs.Common.{◌≡◌, ℕ, ◌+◌, ◌<◌, ◌≤◌, ◌⊎◌, inl, inr, refl, ap, sym, subst, ◌∙◌, arith}
-use Rattle.std.proofs.Common.{Bool, true, false, cond, ◌==◌, List, [], ◌∷◌, ◌++◌, length, nat_lt, lt-ltb, ltb-true}
-use Rattle.std.proofs.Common.{ltb-false, eq-eqb}
+use Rattle.std.proofs.Common.{◌≡◌, ℕ, ◌+◌, ◌<◌, ◌≤◌, ◌⊎◌, inl, inr, refl, ap, sym, subst, ◌∙◌, arith, Bool, true, false}
+use Rattle.std.proofs.Common.{cond, ◌==◌, List, [], ◌∷◌, ◌++◌, length, nat_lt, lt-ltb, ltb-true, ltb-false, eq-eqb}
 use Rattle.std.specs.Prelude.{Option, Some, None, option_map, Result, Ok, Err, IfOk}
 use Rattle.css_player.specs.Player.{Player}
 use Rattle.css_player.specs.Segments.{with_programme, with_timeline, commanded}
@@ -15,14 +14,12 @@ use Rattle.css_tsmsg.specs.declared.setup.Setup.{Setup}
 use Rattle.css_num.specs.declared.protocol.Kind.{Kind}
 use Rattle.css_sessions.specs.declared.session.Session.{Session}
 use Rattle.css_sessions.specs.Offsets.{control_for}
-use Rattle.css_sessions.specs.Kept.{Opened, SetUp, Closed, Kept}
-use Rattle.css_sessions.specs.Kept.{Rising, talk_of, set_up_in}
+use Rattle.css_sessions.specs.Kept.{Opened, SetUp, Closed, Kept, Rising, talk_of, set_up_in}
 use Rattle.css_sessions.specs.Told.{Life, Unset, TsLife, Lived, born, set_life, grown_life, living, ended, life_of}
 use Rattle.css_sessions.specs.Told.{state_of, window_of, sessions_of}
 use Rattle.css_sessions.proofs.Telling.{kept, kept_of, is_kept}
 use Rattle.css_tv.specs.Outcomes.{Outcome, outcome, outcome_at, by_player, programme_added, timeline_added, viewed}
-use Rattle.css_tv.specs.Outcomes.{only, opened}
-use Rattle.css_tv.specs.Outcomes.{by_setup, choice, windows_after, presented, by_presentation, heard}
+use Rattle.css_tv.specs.Outcomes.{only, opened, by_setup, choice, windows_after, presented, by_presentation, heard}
 use Rattle.css_tv.specs.Stages.{max_sessions}
 use Rattle.css_tv.specs.States.{published_state}
 use Rattle.css_tv.specs.Standing.{Calls, calls_of, with_outcome}
@@ -156,8 +153,7 @@ module _ (peer : ℕ) (calls : Calls) (staged : IsStaged addresses calls) where
   goes_by : (r : Result Outcome TvFault) → IfOk r (IsGrown calls) → IfOk r OutcomeGoesOn
       → let after = with_outcome r calls in GoesOn shown (player_of after.player) lived (life_of peer after.sessions)
   goes_by (Err fault) grown goes = stays shown lived lived refl
-  goes_by (Ok o) grown goes =
-      subst (λ (p : Player). GoesOn shown p lived (life_of peer (o.called ++ calls.sessions))) grown.player.same goes
+  goes_by (Ok o) grown goes = rw grown.player.same at goes
 
 -- A session's life goes on by an event that isn't of that session.
 pub goes_on : (peer : ℕ) (events : List TvEvent) (e : TvEvent) → IsStaged addresses (calls_of addresses events)

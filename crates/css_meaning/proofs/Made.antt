@@ -1,11 +1,9 @@
 -- Where the datagrams of accepted lines come from.
-use Rattle.std.proofs.Common.{◌≡◌, ℕ, suc, ◌<◌, ◌≤◌, ◌⊎◌, inl, inr, arith, ap, sym, subst, ◌∙◌, refl}
-use Rattle.std.proofs.Common.{Bool, true, false, cond, ◌==◌, not, List, [], ◌∷◌, ◌++◌, map, length}
-use Rattle.std.specs.Prelude.{Option, Some, None, is_some, unwrap_or, Result, Ok, Err, ◌||◌}
-use Rattle.std.specs.Result.{result_and}
-use Rattle.std.specs.Option.{option_map, option_to_list}
+use Rattle.std.proofs.Common.{◌≡◌, ℕ, suc, ◌<◌, ◌≤◌, ◌⊎◌, inl, inr, arith, ap, sym, subst, ◌∙◌, refl, Bool, true, false}
+use Rattle.std.proofs.Common.{cond, ◌==◌, not, List, [], ◌∷◌, ◌++◌, map, length, Option, Some, None, is_some, unwrap_or}
+use Rattle.std.proofs.Common.{◌||◌, eq-eqb, ne_eqb, option_map, option_to_list}
 use Rattle.std.proofs.lemmas.List.{length-map}
-use Rattle.std.proofs.lemmas.Bool.{eqb-true, eq-eqb, ne_eqb, and_parts, false≢true}
+use Rattle.std.proofs.lemmas.Bool.{and_parts, false≢true, or_right, not-true}
 use Rattle.css_model.specs.declared.TheConstants.{LIMIT}
 use Rattle.css_model.specs.declared.Message.{Message}
 use Rattle.css_model.specs.Numbers.{IsWithin, precision_ns}
@@ -16,41 +14,16 @@ use Rattle.css_schedule.specs.declared.header.Header.{Header}
 use Rattle.css_schedule.specs.declared.line.Verb.{Verb}
 use Rattle.css_schedule.specs.declared.line.Verb.TheVariants.{Give}
 use Rattle.css_schedule.specs.Ranges.{IsVerb}
-use Rattle.css_meaning.specs.declared.fault.WorldFault.{WorldFault}
-use Rattle.css_meaning.specs.declared.fault.WorldFault.TheVariants.{Absent}
 use Rattle.css_meaning.specs.Happened.{Numbered, requests, tickets, ticket_by, taken_for, server_of, answers_to}
-use Rattle.css_meaning.specs.Happened.{answers_by, datagrams, owners_by, made_for, gives, is_given, events_of, history_of}
+use Rattle.css_meaning.specs.Happened.{answers_by, datagrams, owners_by, made_for, gives, is_given}
 use Rattle.css_meaning.specs.Numbering.{numbered}
-use Rattle.css_meaning.specs.Verdicts.{tv_reading, can_exchange, can_talk, can_happen}
-use Rattle.css_meaning.specs.Verdicts.{played, event_at, printed_for, carried_out}
+use Rattle.css_meaning.specs.Verdicts.{tv_reading, can_exchange}
 use Rattle.css_meaning.specs.Accepted.{AreAccepted}
 use Rattle.css_meaning.specs.Worlds.{moment}
-use Rattle.css_meaning.proofs.Worlds.{tested_ok, carried_ok}
+use Rattle.css_meaning.proofs.Worlds.{tested_ok}
+use Rattle.css_meaning.proofs.Ends.{can_exchange_now}
 use Rattle.css_meaning.proofs.Moments.{Agrees, NearBy, tv_near}
 use Rattle.css_meaning.proofs.Tickets.{numbered-in, in-append, IsTaken, taken-longer, taken_each}
-
--- ---- what can happen
--- what an accepted line says can happen
-pub can-happen : (header : Header) (older : List Numbered) (now : Numbered) (printed : List ℕ)
-    → carried_out header older now ≡ Ok printed
-    → can_happen header older now.line.who now.line.verb ≡ true
-can-happen header older now printed e = by (can_happen header older now.line.who now.line.verb) e
-  where
-    meant : Result (List ℕ) WorldFault
-    meant = result_and (played (events_of header older) (event_at header older now.line.who now.line.verb))
-        (Ok (printed_for header older now now.line.verb))
-
-    by : (b : Bool) → cond b meant (Err Absent) ≡ Ok printed → b ≡ true
-    by true p = refl
-    by false p = absurd (cc)
-
--- so what it says of requests, takes and datagrams can happen
-pub can-exchange : (header : Header) (older : List Numbered) (who : ℕ) (verb : Verb)
-    → can_happen header older who verb ≡ true
-    → can_exchange header older who verb ≡ true
-can-exchange header older who verb can =
-    (and_parts (can_exchange header older who verb)
-    (can_talk who (events_of header older) (history_of who header older) verb) can).0
 
 -- ---- datagrams with where they come from
 -- a datagram, the number of the line's moment at which it was made, the number of its take, the companion that it is
@@ -189,10 +162,10 @@ numbered-map part number (x ∷ xs) =
     by false older = older
 
 -- what is mapped to something comes from something
-from_part : {A B : Type 0} (f : A → B) (o : Option A) (b : B) → option_map f o ≡ Some b
+pub mapped_some : {A B : Type 0} (f : A → B) (o : Option A) (b : B) → option_map f o ≡ Some b
     → (a : A) × (o ≡ Some a) × (f a ≡ b)
-from_part f None b e = absurd (cc)
-from_part f (Some a) b e = (a, refl, cc)
+mapped_some f None b e = absurd (cc)
+mapped_some f (Some a) b e = (a, refl, cc)
 
 -- A datagram with a number that is for a companion is one of those made, and is made for it.
 pub record IsNumberedMade (header : Header) (number : ℕ) (lines : List Numbered) (who : ℕ) : Type 0 where
@@ -204,7 +177,7 @@ pub record IsNumberedMade (header : Header) (number : ℕ) (lines : List Numbere
 pub numbered-made : (header : Header) (number : ℕ) (lines : List Numbered) (who : ℕ)
     → numbered number (made_for header lines) ≡ Some who → IsNumberedMade header number lines who
 numbered-made header number lines who e =
-    let found = from_part owner_of (numbered number (made header lines)) who
+    let found = mapped_some owner_of (numbered number (made header lines)) who
     (sym (numbered-map owner_of number (made header lines)) ∙ ap (numbered number) (owners-made header lines) ∙ e) in
     record {
       d = found.0;
@@ -238,15 +211,10 @@ pub record IsMade (world : World) (moment_of : ℕ → ℕ) (header : Header) (w
   pub range : d.reading < LIMIT
 
 -- ---- numbers that stay
-numbered-le : {A : Type 0} (number : ℕ) (items : List A) (a : A)
+pub numbered-le : {A : Type 0} (number : ℕ) (items : List A) (a : A)
     → numbered number items ≡ Some a → number ≤ length items
 numbered-le number [] a e = absurd (cc)
-numbered-le number (item ∷ older) a e = by (number == suc (length older)) refl e (numbered-le number older a)
-  where
-    by : (b : Bool) → (number == suc (length older)) ≡ b → cond b (Some item) (numbered number older) ≡ Some a
-        → (numbered number older ≡ Some a → number ≤ length older) → number ≤ length (item ∷ older)
-    by true q p next = omega (arith, eqb-true number (suc (length older)) q)
-    by false q p next = omega (arith, next p)
+numbered-le number (item ∷ older) a e = let next = numbered-le number older a in grind (arith, e, next)
 
 -- an item keeps its number where another comes
 numbered-stays : {A : Type 0} (number : ℕ) (item : A) (older : List A) (a : A) → numbered number older ≡ Some a
@@ -276,10 +244,6 @@ made-longer world moment_of header who now older d is = record {
   near = is.near;
   range = is.range;
 }
-  where
-    or_right : (a b : Bool) → b ≡ true → (a || b) ≡ true
-    or_right true b e = refl
-    or_right false b e = e
 
 -- ---- what is made at a line
 -- the datagrams for a ticket, each with what it tells
@@ -352,17 +316,14 @@ made_by-line world moment_of header who now older d (Give take reading) is first
           tells = known.4;
           in_tickets = numbered-with d.take (ticket_by header (requests older) (tickets header older) now.line.verb)
               (tickets header older) d.ticket
-              (subst (λ (k : ℕ). numbered k (tickets header older) ≡ Some d.ticket) (sym known.1) numbered_so);
+              (rw known.1 numbered_so);
           given = ap (λ (v : Verb). gives d.take v || is_given d.take older) is
               ∙ ap (λ b. b || is_given d.take older) (eq-eqb take d.take (sym known.1));
           before = omega (arith, known.0);
           taken = taken-longer world moment_of header who now older d.ticket taken_so;
           later = omega (arith, known.0, taken_so.before);
-          near = subst (λ (r : ℕ). IsWithin (precision_ns header.tv_precision) r (world d.given_at).wall) (sym known.3)
-              (subst (λ (i : ℕ). IsWithin (precision_ns header.tv_precision) reading (world i).wall) (sym known.0)
-              (subst (λ (w : ℕ). IsWithin (precision_ns header.tv_precision) reading w)
-              (sym (ap (λ m. m.wall) at)) near));
-          range = subst (λ (r : ℕ). r < LIMIT) (sym known.3) range.reading;
+          near = rw known.3 (rw known.0 (rw (ap (λ m. m.wall) at) near));
+          range = rw known.3 range.reading;
         }
 made_by-line world moment_of header who now older d _ is first range at near taken owned h = absurd h
 
@@ -387,11 +348,6 @@ made_each world moment_of header who (now ∷ older) d first accepted agreed own
 record IsGivenNow (older : List Numbered) (d : Made) : Type 0 where
   at : d.given_at ≡ length older
   fresh : is_given d.take older ≡ false
-
--- what is not true is false
-not-true : (b : Bool) → not b ≡ true → b ≡ false
-not-true true e = absurd (cc)
-not-true false e = refl
 
 -- what this verb makes is given at this line
 given_now : (header : Header) (older : List Numbered) (who : ℕ) (d : Made) (verb : Verb)
@@ -424,10 +380,6 @@ given_before header (now ∷ older) d h =
       | inr q ↦ or_right (gives d.take now.line.verb) (is_given d.take older) (given_before header older d q)
     ]
   where
-    or_right : (a b : Bool) → b ≡ true → (a || b) ≡ true
-    or_right true b e = refl
-    or_right false b e = e
-
     by : (verb : Verb) → IsIn d (made_by header (length older) (tickets header older) (taken_for older) verb)
         → (gives d.take verb || is_given d.take older) ≡ true
     by (Give take reading) p = to (numbered take (tickets header older)) p
@@ -456,8 +408,7 @@ one_giving header (now ∷ older) a b accepted p q e =
     rest = made header older
 
     can : can_exchange header older now.line.who now.line.verb ≡ true
-    can = can-exchange header older now.line.who now.line.verb
-        (can-happen header older now accepted.3.0 (carried_ok header older now accepted.3.0 accepted.3.1))
+    can = can_exchange_now header now older now.line.who refl accepted
 
     by : IsIn a here ⊎ IsIn a rest → IsIn b here ⊎ IsIn b rest → (IsIn a rest → IsIn b rest → a.given_at ≡ b.given_at)
         → a.given_at ≡ b.given_at

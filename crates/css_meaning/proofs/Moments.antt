@@ -1,34 +1,27 @@
 -- Where the entries of a companion's history have their moments, and that its readings are of its clock there.
-use Rattle.std.proofs.Common.{◌≡◌, ℕ, suc, ◌-◌, ◌<◌, ◌≤◌, arith, ap, sym, subst, ◌∙◌, refl, inl, inr, not, ne_eqb}
-use Rattle.std.proofs.Common.{Bool, true, false, cond, ◌==◌, ltb, List, [], ◌∷◌, length}
-use Rattle.std.specs.Prelude.{◌&&◌, Option, Some, None, IfSome, Result, Ok, Err, pos}
+use Rattle.std.proofs.Common.{◌≡◌, ℕ, suc, ◌-◌, ◌<◌, ◌≤◌, arith, ap, sym, subst, ◌∙◌, refl, not, ne_eqb, Bool, true}
+use Rattle.std.proofs.Common.{false, cond, ◌==◌, ltb, List, [], ◌∷◌, length, ◌&&◌, Option, Some, None, IfSome, Ok}
+use Rattle.std.proofs.Common.{lt-ltb, le-ltb, ltb-true, ltb-false, eq-eqb}
 use Rattle.std.specs.Int.{abs_diff}
-use Rattle.std.proofs.lemmas.Bool.{lt-ltb, le-ltb, ltb-true, ltb-false, eq-eqb}
 use Rattle.css_model.specs.declared.Message.{Message}
 use Rattle.css_model.specs.Numbers.{IsWithin, precision_ns}
-use Rattle.std.proofs.lemmas.Bool.Decides.{eqb_tells}
 use Rattle.css_model.specs.World.{World, Moment, OwnClock, Reads}
 use Rattle.css_schedule.specs.Owners.{is_sleep}
-use Rattle.css_model.specs.History.{Entry, History, Dialled, Heard, Wrote, Closed, Each, sleeps}
+use Rattle.css_model.specs.History.{Entry, History, Each, sleeps}
 use Rattle.css_model.specs.Explains.{HappensIn, ReadsAt}
 use Rattle.css_schedule.specs.declared.header.Header.{Header}
 use Rattle.css_schedule.specs.declared.line.Verb.{Verb}
-use Rattle.css_schedule.specs.declared.line.Verb.TheVariants.{Ask, Land, Wall, Print, Opening, Bring, Present, Close}
-use Rattle.css_schedule.specs.declared.line.Verb.TheVariants.{Sleep}
-use Rattle.css_num.specs.declared.protocol.Kind.TheVariants as kind
+use Rattle.css_schedule.specs.declared.line.Verb.TheVariants.{Ask, Land, Wall, Print}
 use Rattle.css_tv.specs.declared.event.TvEvent.{TvEvent}
-use Rattle.css_meaning.specs.declared.fault.WorldFault.{WorldFault}
-use Rattle.css_meaning.specs.declared.fault.WorldFault.TheVariants.{Broken}
 use Rattle.css_meaning.specs.declared.reading.Reading.{Reading}
-use Rattle.css_meaning.specs.Happened.{Numbered, datagrams, done_by, hearing, events_of, history_of}
-use Rattle.css_meaning.specs.Sessions.{peer_of, next_down}
+use Rattle.css_meaning.specs.Happened.{Numbered, datagrams, done_by, events_of, history_of}
 use Rattle.css_meaning.specs.Worlds.{world_of, sleeps_of, moment, moment_number}
 use Rattle.css_meaning.specs.Clocks.{near_verdict, order_verdict, reading_verdict, last_reading, has_woken}
 use Rattle.css_meaning.specs.Verdicts.{tv_reading, own_reading, seen_of_tv, seen_of, local_of, tested}
 use Rattle.css_meaning.specs.Accepted.{AreAccepted}
-use Rattle.css_meaning.proofs.Worlds.{tested_ok, reading-ok, world-older, world-now, second_ok, first_ok, sleeps_awake}
-use Rattle.css_meaning.proofs.Ends.{history_now, history_other}
-use Rattle.css_meaning.proofs.Lawful.{done_at, IsTalk, each_talk, sleeps_are}
+use Rattle.css_meaning.proofs.Worlds.{tested_ok, reading-ok, world-older, world-now, first_ok, sleeps_awake}
+use Rattle.css_meaning.proofs.Ends.{history_now}
+use Rattle.css_meaning.proofs.Lawful.{done_at, IsTalk, Adds, each_line, own_passes, sleeps_are}
 
 -- ---- moments
 -- The world has the moments of these lines, and each entry of the history of companion `who` is made at that of its
@@ -41,19 +34,10 @@ Agrees world moment_of header who (now ∷ older) =
     → entry < length (history_of who header (now ∷ older)) → moment_of entry ≡ length older)
     × Agrees world moment_of header who older
 
--- a text that comes doesn't shorten a history
-longer_heard : (peer : ℕ) (text : Option (List ℕ)) (older : History) → length older ≤ length (hearing peer text older)
-longer_heard peer None older = omega arith
-longer_heard peer (Some bytes) older = omega arith
-
 -- no verb shortens a history
 longer_by : (header : Header) (who : ℕ) (made : List Message) (events : List TvEvent) (verb : Verb) (older : History)
     → length older ≤ length (done_by header who made events verb older)
-longer_by header who made events (Opening kind.Cii) older = omega arith
-longer_by header who made events (Opening kind.Ts) older = omega arith
-longer_by header who made events (Bring kind) older =
-    longer_heard (peer_of who kind) (next_down who kind events older) older
-longer_by header who made events _ older = omega arith
+longer_by header who made events verb older = grind arith
 
 -- a history doesn't get shorter by a line
 pub longer : (header : Header) (who : ℕ) (now : Numbered) (older : List Numbered)
@@ -128,21 +112,12 @@ numbers-rise header who (now ∷ older) i j le =
     by false false p q h = omega arith
 
 -- ---- readings
-abbrev passed : Result (Unit {0}) WorldFault
-passed = Ok tt
-
 -- a reading that isn't refused is within the precision
 near_ok : (number precision shown reading : ℕ) → near_verdict number precision shown reading ≡ Ok tt
     → IsWithin precision reading shown
-near_ok number precision shown reading e = by (ltb precision (abs_diff reading shown)) refl e
-  where
-    by : (b : Bool) → ltb precision (abs_diff reading shown) ≡ b
-        → cond b (Err (Broken number (pos (abs_diff reading shown - precision)))) passed ≡ passed
-        → IsWithin precision reading shown
-    by true p q = absurd (cc)
-    by false p q =
-        let small : abs_diff reading shown ≤ precision = ltb-false precision (abs_diff reading shown) p in
-        (omega (arith, small), omega (arith, small))
+near_ok number precision shown reading e =
+    let small : abs_diff reading shown ≤ precision = grind (arith, e) in
+    (omega (arith, small), omega (arith, small))
 
 -- so is one that is taken at a line
 reading_ok : (number precision shown : ℕ) (woken : Bool) (last : Option Reading) (reading : ℕ)
@@ -178,101 +153,65 @@ pub own_near : (header : Header) (older : List Numbered) (now : Numbered) (who :
     → tested header older now ≡ Ok tt
     → NearBy (local_of who header).precision now.line.l (own_reading now.line.verb)
 own_near header older now who own e =
-    let n = now.line.who in
-    let woken = has_woken (seen_of n older) in
-    let last = last_reading (seen_of n older) in
-    let second = second_ok (reading_verdict now.number (precision_ns header.tv_precision) now.line.w false
-    (last_reading (seen_of_tv older)) (tv_reading now.line.verb))
-    (reading_verdict now.number (local_of n header).precision now.line.l woken last
-    (own_reading now.line.verb)) tt (reading-ok header older now e) in
-    subst (λ (m : ℕ). NearBy (local_of m header).precision now.line.l (own_reading now.line.verb)) own
-    (near_by now.number (local_of n header).precision now.line.l woken last (own_reading now.line.verb) second)
+    near_by now.number (local_of who header).precision now.line.l (has_woken (seen_of who older))
+    (last_reading (seen_of who older)) (own_reading now.line.verb) (own_passes header older now who own e)
 
 -- ---- the history can happen
--- companion `who` reads its clock at a line of its own
-reads-line : (world : World) (header : Header) (who : ℕ) (now : Numbered) (lines : List Numbered) (i reading slept : ℕ)
-    → world i ≡ moment lines now → 1 ≤ who → now.line.who ≡ who
-    → slept ≡ sleeps_of who (now ∷ lines) → IsWithin (local_of who header).precision reading now.line.l
-    → Reads world who i (local_of who header).precision reading slept
-reads-line world header who now lines i reading slept at first own awake near =
-    let shows : OwnClock = record { value = now.line.l; sleeps = sleeps_of who (now ∷ lines) } in
-    let other : (who == 0) ≡ false = ne_eqb who 0 (λ same. absurd (omega (arith, same, first))) in
-    record {
-      clock = shows;
-      shows = ap (λ (m : Moment). m.companion who) at
-          ∙ ap (λ b. cond (not b && (now.line.who == who)) (Some shows) None) other
-          ∙ ap (λ b. cond b (Some shows) None) (eq-eqb now.line.who who own);
-      awake = sym awake;
-      near = near;
-    }
-
 -- an entry of a session reads no clock
 reads_talk : (world : World) (header : Header) (who : ℕ) (moment_of : ℕ → ℕ) (entry : Entry) (before : History)
     → IsTalk entry → ReadsAt world who (local_of who header) moment_of entry before
-reads_talk world header who moment_of (Dialled kind peer) before talk = tt
-reads_talk world header who moment_of (Heard peer bytes) before talk = tt
-reads_talk world header who moment_of (Wrote peer bytes) before talk = tt
-reads_talk world header who moment_of (Closed peer) before talk = tt
-reads_talk world header who moment_of _ before talk = absurd talk
+reads_talk world header who moment_of entry before talk = grind (arith, talk)
+
+-- the entries of a line of companion `who` that says this are made at the moment of the line
+abbrev pub AreHere : (ℕ → ℕ) → Header → ℕ → List Numbered → Verb → Type 0
+AreHere moment_of header who older verb =
+    (entry : ℕ) → length (history_of who header older) ≤ entry → entry < length (done_at header older who verb)
+    → moment_of entry ≡ length older
 
 module _ (world : World) (moment_of : ℕ → ℕ) (header : Header) (who : ℕ) (first : 1 ≤ who) (now : Numbered)
-    (lines : List Numbered) (made : List Message) (events : List TvEvent) (index : ℕ) where
-  -- the entries of a verb are made at the moment with this number
-  abbrev AreHere : Verb → History → Type 0
-  AreHere verb older =
-      (entry : ℕ) → length older ≤ entry → entry < length (done_by header who made events verb older)
-      → moment_of entry ≡ index
-
-  -- each entry reads the clock of its moment
-  abbrev Read : History → Type 0
-  Read history = Each (ReadsAt world who (local_of who header) moment_of) history
-
-  -- a reading of the clock in the newest entry
-  reads_turn : (reading : ℕ) (older : History) → world index ≡ moment lines now → now.line.who ≡ who
-      → sleeps older ≡ sleeps_of who (now ∷ lines)
-      → moment_of (length older) ≡ index → IsWithin (local_of who header).precision reading now.line.l
-      → Reads world who (moment_of (length older)) (local_of who header).precision reading (sleeps older)
-  reads_turn reading older at own slept here near =
-      reads-line world header who now lines (moment_of (length older)) reading (sleeps older) (ap world here ∙ at) first
-      own slept near
+    (lines : List Numbered) (at : world (length lines) ≡ moment lines now) (own : now.line.who ≡ who) where
+  -- companion `who` reads its clock in an entry of this line
+  reads_at : (entry reading slept : ℕ) → moment_of entry ≡ length lines → slept ≡ sleeps_of who (now ∷ lines)
+      → IsWithin (local_of who header).precision reading now.line.l
+      → Reads world who (moment_of entry) (local_of who header).precision reading slept
+  reads_at entry reading slept here awake near =
+      let shows : OwnClock = record { value = now.line.l; sleeps = sleeps_of who (now ∷ lines) } in
+      let other : (who == 0) ≡ false = ne_eqb who 0 (λ same. absurd (omega (arith, same, first))) in
+      record {
+        clock = shows;
+        shows = ap (λ (m : Moment). m.companion who) (ap world here ∙ at)
+            ∙ ap (λ b. cond (not b && (now.line.who == who)) (Some shows) None) other
+            ∙ ap (λ b. cond b (Some shows) None) (eq-eqb now.line.who who own);
+        awake = sym awake;
+        near = near;
+      }
 
   -- the entries of one verb read the line's clocks
-  reads_by : (verb : Verb) (older : History) → world index ≡ moment lines now → now.line.who ≡ who
-      → (is_sleep verb ≡ false → sleeps older ≡ sleeps_of who (now ∷ lines))
-      → AreHere verb older → NearBy (local_of who header).precision now.line.l (own_reading verb)
-      → Read older → Read (done_by header who made events verb older)
-  reads_by (Ask reading) older at own slept entries near each = (
-    tt,
-    (
-      reads_turn reading older at own (slept refl) (entries (length older) (omega arith) (omega arith)) near,
-      each,
-    ),
-  )
-  reads_by (Land datagram reading) older at own slept entries near each = (
-    reads-line world header who now lines (moment_of (suc (length older))) reading (sleeps older)
-        (ap world (entries (suc (length older)) (omega arith) (omega arith)) ∙ at) first own (slept refl) near,
-    (tt, each),
-  )
-  reads_by (Wall reading) older at own slept entries near each =
-      (reads_turn reading older at own (slept refl) (entries (length older) (omega arith) (omega arith)) near, each)
-  reads_by (Print reading) older at own slept entries near each =
-      (reads_turn reading older at own (slept refl) (entries (length older) (omega arith) (omega arith)) near, each)
-  reads_by (Opening kind) older at own slept entries near each =
-      each_talk _ header who made events (Opening kind) older tt (reads_talk world header who moment_of) each
-  reads_by (Bring kind) older at own slept entries near each =
-      each_talk _ header who made events (Bring kind) older tt (reads_talk world header who moment_of) each
-  reads_by (Present earliest latest) older at own slept entries near each = (tt, each)
-  reads_by (Close kind) older at own slept entries near each = (tt, each)
-  reads_by Sleep older at own slept entries near each = (tt, each)
-  reads_by _ older at own slept entries near each = each
+  reads_by : (verb : Verb)
+      → (is_sleep verb ≡ false → sleeps (history_of who header lines) ≡ sleeps_of who (now ∷ lines))
+      → AreHere moment_of header who lines verb → NearBy (local_of who header).precision now.line.l (own_reading verb)
+      → Adds (ReadsAt world who (local_of who header) moment_of) (datagrams header lines) verb
+      (history_of who header lines)
+  reads_by (Ask reading) slept here near =
+      let n : ℕ = length (history_of who header lines) in
+      (tt, reads_at n reading _ (here n (omega arith) (omega arith)) (slept refl) near)
+  reads_by (Land datagram reading) slept here near =
+      let n : ℕ = suc (length (history_of who header lines)) in
+      (reads_at n reading _ (here n (omega arith) (omega arith)) (slept refl) near, tt)
+  reads_by (Wall reading) slept here near =
+      let n : ℕ = length (history_of who header lines) in
+      reads_at n reading _ (here n (omega arith) (omega arith)) (slept refl) near
+  reads_by (Print reading) slept here near =
+      let n : ℕ = length (history_of who header lines) in
+      reads_at n reading _ (here n (omega arith) (omega arith)) (slept refl) near
+  reads_by _ slept here near = tt
 
 -- the entries of a line are made at its moment
 pub entries-here : (moment_of : ℕ → ℕ) (header : Header) (who : ℕ) (now : Numbered) (older : List Numbered)
     → now.line.who ≡ who
     → ((entry : ℕ) → length (history_of who header older) ≤ entry
     → entry < length (history_of who header (now ∷ older)) → moment_of entry ≡ length older)
-    → (entry : ℕ) → length (history_of who header older) ≤ entry
-    → entry < length (done_at header older who now.line.verb) → moment_of entry ≡ length older
+    → AreHere moment_of header who older now.line.verb
 entries-here moment_of header who now older own here entry from below =
     here entry from (subst (λ (h : History). entry < length h) (sym (history_now header now older who own)) below)
 
@@ -280,20 +219,14 @@ entries-here moment_of header who now older own here entry from below =
 pub reads_each : (world : World) (moment_of : ℕ → ℕ) (header : Header) (who : ℕ) (lines : List Numbered) → 1 ≤ who
     → AreAccepted header lines → Agrees world moment_of header who lines
     → Each (ReadsAt world who (local_of who header) moment_of) (history_of who header lines)
-reads_each world moment_of header who [] first accepted agreed = tt
-reads_each world moment_of header who (now ∷ older) first accepted agreed =
-    let before = reads_each world moment_of header who older first accepted.4 agreed.2 in
-    let Read : History → Type 0 = λ h. Each (ReadsAt world who (local_of who header) moment_of) h in
-    elim (eqb_tells now.line.who who) [
-      | inl own ↦
-          subst Read (sym (history_now header now older who own.1))
-          (reads_by world moment_of header who first now older (datagrams header older) (events_of header older)
-          (length older) now.line.verb (history_of who header older) agreed.0 own.1
-          (λ awake. sleeps_are header who older ∙ sym (sleeps_awake now older who awake))
-          (entries-here moment_of header who now older own.1 agreed.1)
-          (own_near header older now who own.1 (tested_ok header older now accepted.3.0 accepted.3.1)) before)
-      | inr other ↦ subst Read (sym (history_other header now older who other.1)) before
-    ]
+reads_each world moment_of header who lines first accepted agreed =
+    each_line header who (ReadsAt world who (local_of who header) moment_of)
+    (λ ls. AreAccepted header ls × Agrees world moment_of header who ls) (reads_talk world header who moment_of)
+    (λ now older known. (known.0.4, known.1.2)) (λ now older own known.
+    reads_by world moment_of header who first now older known.1.0 own now.line.verb
+    (λ awake. sleeps_are header who older ∙ sym (sleeps_awake now older who awake))
+    (entries-here moment_of header who now older own known.1.1)
+    (own_near header older now who own (tested_ok header older now known.0.3.0 known.0.3.1))) lines (accepted, agreed)
 
 -- what a companion did at accepted lines can happen in their world
 pub happens : (header : Header) (who : ℕ) (lines : List Numbered) → 1 ≤ who → AreAccepted header lines

@@ -1,9 +1,8 @@
 -- What a television's player shows is in range, and its texts are UTF-8; so what it publishes can be told.
-use Rattle.std.proofs.Common.{◌≡◌, ℕ, zero, suc, ◌-◌, ◌*◌, ◌<◌, ◌≤◌, refl, subst, arith, Bool}
-use Rattle.std.proofs.Common.{true, false, cond, ◌==◌}
+use Rattle.std.proofs.Common.{◌≡◌, ℕ, zero, suc, ◌-◌, ◌*◌, ◌<◌, ◌≤◌, refl, subst, arith, Bool, true, false, cond, ◌==◌}
 use Rattle.std.proofs.Common.{List, [], ◌∷◌, ◌++◌, length, set, nat_lt, nat_le, ltb-false, mul-le-mul}
-use Rattle.std.specs.Prelude.{ℤ, pos, ◌*ℤ◌, unsigned_abs, int_lt, map, find, bytes_eq, nat_eq, slice_get}
-use Rattle.std.specs.Prelude.{Option, Some, None, IfSome, option_map, option_and_then, Result, Ok, Err}
+use Rattle.std.specs.Prelude.{ℤ, pos, ◌*ℤ◌, unsigned_abs, int_lt, map, find, bytes_eq, nat_eq, slice_get, Option, Some}
+use Rattle.std.specs.Prelude.{None, IfSome, option_map, option_and_then, Result, Ok, Err}
 use Rattle.std.specs.List.{AllByRecursion, starts_with}
 use Rattle.std.specs.Str.{IsUtf8}
 use Rattle.std.proofs.lemmas.Int.{ints, unsigned_abs-mul}
@@ -12,13 +11,11 @@ use Rattle.css_num.specs.Rates.{IsTickRate}
 use Rattle.css_num.specs.declared.control.Control.TheVariants.{Unavailable}
 use Rattle.css_num.proofs.Rounding.{floor_div-within}
 use Rattle.css_cii.specs.Texts.{EachIn, SelectorsAreUtf8, RatesAreInRange}
-use Rattle.css_player.specs.Player.{Track, Programme, Segment, Player, media_limit, max_delay}
-use Rattle.css_player.specs.Player.{IsSegment, IsTrack, IsPublished}
-use Rattle.css_player.specs.Segments.{numbered, track_of, tick_of, changed_to, sped, sped_to, sought}
-use Rattle.css_player.specs.Segments.{sought_to, placed, turned, delayed}
-use Rattle.css_player.specs.Segments.{with_segment, commanded, with_delay, with_programme, with_track}
-use Rattle.css_player.specs.Segments.{longer, told_of, present}
-use Rattle.css_player.specs.Segments.{control_of, control_from, control_in, control_at}
+use Rattle.css_player.specs.Player.{Track, Programme, Segment, Player, media_limit, max_delay, IsSegment, IsTrack}
+use Rattle.css_player.specs.Player.{IsPublished}
+use Rattle.css_player.specs.Segments.{numbered, track_of, tick_of, changed_to, sped, sped_to, sought, sought_to, placed}
+use Rattle.css_player.specs.Segments.{turned, delayed, with_segment, commanded, with_delay, with_programme, with_track}
+use Rattle.css_player.specs.Segments.{longer, told_of, present, control_of, control_from, control_in, control_at}
 use Rattle.css_player.specs.declared.command.Command.{Command}
 use Rattle.css_player.specs.declared.command.Command.TheVariants as command
 use Rattle.css_player.specs.declared.command.PlayerFault.TheVariants as fault
@@ -30,6 +27,7 @@ use Rattle.css_sessions.proofs.Ranges.{published}
 use Rattle.css_tv.specs.States.{published_state}
 use Rattle.css_tv.specs.declared.state.Addresses.{Addresses}
 use Rattle.css_tv.proofs.States.{state_utf8}
+use Rattle.css_tv.proofs.Keeping.{ok_same}
 
 -- a timeline's base and its rate are in range, and its selector is UTF-8
 pub record IsPlayableTrack (t : Track) : Type 0 where
@@ -83,10 +81,6 @@ all-set P (y ∷ ys) zero x h new = (new, h.1)
 all-set P (y ∷ ys) (suc i) x h new = (h.0, all-set P ys i x h.1 new)
 
 -- ---- refusals
--- equal results that are Ok have equal values
-pub ok_same : {A E : Type 0} (x y : A) → ◌≡◌ {A = Result A E} (Ok x) (Ok y) → x ≡ y
-ok_same x y h = cc
-
 -- a chain that ends in Ok passed its test
 passed : {A E : Type 0} (b : Bool) (e : E) (r : Result A E) (y : A) → cond b (Err e) r ≡ Ok y → (b ≡ false) × (r ≡ Ok y)
 passed true e r y h = absurd (cc)

@@ -1,10 +1,9 @@
 -- What a companion assigns, where its state and its control timestamp are the published ones.
-use Rattle.std.proofs.Common.{◌≡◌, ℕ, ◌<◌, ◌⊎◌, arith, ap, sym, subst, ◌∙◌, refl, Bool, true, false, cond}
-use Rattle.std.proofs.Common.{List, [], ◌∷◌}
-use Rattle.std.specs.Prelude.{ℤ, pos, negsuc, ◌+ℤ◌, ◌≤ℤ◌, Option, Some, None, Ok, map, find, bytes_eq, nat_eq}
-use Rattle.std.specs.Prelude.{unsigned_abs}
+use Rattle.std.proofs.Common.{◌≡◌, ℕ, ◌<◌, ◌⊎◌, arith, ap, sym, subst, ◌∙◌, refl, Bool, true, false, cond, List, []}
+use Rattle.std.proofs.Common.{◌∷◌, ℤ, pos, negsuc, ◌+ℤ◌, ◌≤ℤ◌, Option, Some, None, Ok, map, find, bytes_eq, nat_eq}
+use Rattle.std.proofs.Common.{unsigned_abs, option_map, option_and_then}
 use Rattle.std.specs.List.{starts_with}
-use Rattle.std.specs.Option.{option_map, option_or, option_and_then}
+use Rattle.std.specs.Option.{option_or}
 use Rattle.std.proofs.lemmas.Int.{ints}
 use Rattle.css_num.specs.Rates.{TickRate}
 use Rattle.css_num.specs.declared.control.Control.{Control}
@@ -12,8 +11,8 @@ use Rattle.css_num.specs.declared.control.Control.TheVariants.{Unavailable}
 use Rattle.css_num.specs.declared.timeline.Timeline.{Timeline}
 use Rattle.css_tsmsg.specs.declared.setup.Setup.{Setup}
 use Rattle.css_player.specs.Player.{Player, Programme, Segment, Track}
-use Rattle.css_player.specs.Segments.{numbered, present, track_of, told_of, tick_of, position_at}
-use Rattle.css_player.specs.Segments.{control_at, control_in, control_from, rate_in}
+use Rattle.css_player.specs.Segments.{numbered, present, track_of, told_of, tick_of, position_at, control_at}
+use Rattle.css_player.specs.Segments.{control_in, control_from, rate_in}
 use Rattle.css_sessions.specs.Offsets.{control_for}
 use Rattle.css_tv.specs.States.{timelines_of}
 use Rattle.css_companion.specs.Positions.{position}

@@ -1,19 +1,18 @@
 -- What an accepted line promises of the sessions and of a report.
-use Rattle.std.proofs.Common.{◌≡◌, ℕ, refl, ap, subst, ◌∙◌, arith, cond, le-ltb, List, ◌∷◌, length}
+use Rattle.std.proofs.Common.{◌≡◌, ℕ, refl, ap, ◌∙◌, arith, cond, le-ltb, List, ◌∷◌, length}
 use Rattle.css_schedule.specs.Owners.{is_own}
 use Rattle.css_model.specs.declared.Why.TheVariants as why
-use Rattle.css_model.specs.History.{Clock, History}
+use Rattle.css_model.specs.History.{Clock}
 use Rattle.css_model.specs.Explains.{Explains, IsLawful}
-use Rattle.css_companion.specs.Reports.{HasTickOf}
 use Rattle.css_companion.proofs.Headline.{headline}
 use Rattle.css_schedule.specs.declared.header.Header.{Header}
 use Rattle.css_meaning.specs.Sessions.{setup_of}
 use Rattle.css_meaning.specs.Happened.{Numbered, datagrams, done_by, events_of, history_of}
-use Rattle.css_meaning.specs.Verdicts.{IsDeclared, local_of, report_at, assigned_at}
+use Rattle.css_meaning.specs.Verdicts.{IsDeclared, local_of}
 use Rattle.css_meaning.specs.Worlds.{world_of, moment, moment_number, errors_of}
 use Rattle.css_meaning.specs.Accepted.{AreAccepted}
-use Rattle.css_meaning.specs.Truth.{IsTrueWall, IsTrueReport, IsPossibleLanding, AreToldInOrder, AreInStepAt, IsTrueLine}
-use Rattle.css_meaning.specs.Truth.{AreWorldOf, AreWorld}
+use Rattle.css_meaning.specs.Truth.{IsTrueWall, IsTrueReport, IsPossibleLanding, AreToldInOrder, AreInStepAt}
+use Rattle.css_meaning.specs.Truth.{IsTrueLine, AreWorldOf, AreWorld}
 use Rattle.css_meaning.proofs.Ends.{history_now}
 use Rattle.css_meaning.proofs.InOrder.{are_told_in_order}
 use Rattle.css_meaning.proofs.InStep.{in_step}
@@ -46,16 +45,15 @@ true_report header older now accepted world reading is =
     let history : history_of who header (now ∷ older) ≡ Clock why.Turn reading ∷ before =
     history_now header now older who refl
     ∙ ap (λ v. done_by header who (datagrams header older) (events_of header older) v before) is in
-    let read : IsLawful (Clock why.Turn reading ∷ before) = subst IsLawful history world.lawful in
+    let read : IsLawful (Clock why.Turn reading ∷ before) = rw history at world.lawful in
     let lawful : IsLawful before = record { rises = read.rises.1; asks = read.asks.1 } in
     let explains : Explains (world_of (now ∷ older)) who header.tv_error own (Clock why.Turn reading ∷ before) moments =
-    subst (λ (h : History). Explains (world_of (now ∷ older)) who header.tv_error own h moments) history
-    world.explains in
+    rw history at world.explains in
     let promised = (headline own selector before reading lawful).contains in
     let contains = promised (errors_of header) (world_of (now ∷ older)) who moments world.keeps explains in
     let wall : (world_of (now ∷ older) (moments (length before))).wall ≡ now.line.w =
     ap (λ i. (world_of (now ∷ older) i).wall) (newest_moment header who now older) ∙ newest_wall now older in
-    subst (λ w. HasTickOf (report_at who header older reading) (assigned_at who header older w)) wall contains
+    rw wall at contains
 
 -- ---- the sessions
 -- The texts that came by an accepted line tell the first published states, and each companion's state is the last of

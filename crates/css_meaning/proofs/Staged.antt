@@ -1,18 +1,14 @@
 -- What happens at the television comes of its own companion, at each line: both ends go on from line to line.
-use Rattle.std.proofs.Common.{◌≡◌, ◌≢◌, ℕ, ◌*◌, ◌≤◌, refl, sym, subst, arith, true, false}
-use Rattle.std.proofs.Common.{inl, inr, ne_eqb}
+use Rattle.std.proofs.Common.{◌≡◌, ◌≢◌, ℕ, ◌*◌, ◌≤◌, refl, arith, true, false, inl, inr, ne_eqb, List, []}
+use Rattle.std.proofs.Common.{◌∷◌, ◌++◌, length, Option, Some, None, IfSome, ◌==◌, option_to_list, option_map}
 use Rattle.std.proofs.lemmas.Bool.Decides.{eqb_tells}
 use Rattle.css_model.specs.declared.Message.{Message}
-use Rattle.css_num.specs.declared.protocol.Kind.TheVariants as kind
 use Rattle.css_schedule.specs.Owners.{is_own}
-use Rattle.std.proofs.Common.{List, [], ◌∷◌, ◌++◌, length}
-use Rattle.std.specs.Prelude.{Option, Some, None, IfSome, ◌==◌}
-use Rattle.std.specs.Option.{option_to_list, option_map}
+use Rattle.css_num.specs.declared.protocol.Kind.TheVariants as kind
 use Rattle.css_model.specs.History.{History}
 use Rattle.css_num.specs.declared.protocol.Kind.{Kind}
 use Rattle.css_sessions.specs.Kept.{talk_of}
-use Rattle.css_sessions.specs.Told.{life_of}
-use Rattle.css_sessions.specs.Told.{sessions_of}
+use Rattle.css_sessions.specs.Told.{life_of, sessions_of}
 use Rattle.css_tv.specs.Standing.{calls_of}
 use Rattle.css_tv.specs.declared.event.TvEvent.{TvEvent}
 use Rattle.css_tv.specs.declared.event.TvEvent.TheVariants as event
@@ -25,46 +21,35 @@ use Rattle.css_meaning.specs.Happened.{Numbered, datagrams, event_by, done_by, e
 use Rattle.css_meaning.specs.Verdicts.{can_talk}
 use Rattle.css_meaning.specs.Accepted.{AreAccepted}
 use Rattle.css_meaning.proofs.Ends.{events_with, events_now, history_now, history_other, can_talk_now}
-use Rattle.css_meaning.proofs.Opening.{IsUnknown, IsNeverOpened, opens_none, stays_unknown, unknown_event}
+use Rattle.css_meaning.proofs.Opening.{IsNeverOpened, opens_at, stays_unknown, unknown_by}
 use Rattle.css_meaning.proofs.Entries.{concerns}
 use Rattle.css_meaning.proofs.Peers.{others-peer, peers-few}
-use Rattle.css_meaning.proofs.Staging.{IsSound, staged_start, addresses_wc, addresses_ts, IsStaging, AreBelow, AreStaging}
-use Rattle.css_meaning.proofs.Staging.{staging_of_one, sound_by, staged_by}
+use Rattle.css_meaning.proofs.Staging.{IsSound, staged_start, addresses_wc, addresses_ts, IsStaging, AreBelow}
+use Rattle.css_meaning.proofs.Staging.{AreStaging, staging_of_one, sound_by, staged_by}
 
 -- ---- events of others
 -- whatever text comes, its event is of its own peer
 text_apart : (peer other : ℕ) (text : Option (List ℕ)) → (other == peer) ≡ false
     → IfSome (option_map (event.Heard other) text) (λ e. concerns peer e ≡ false)
-text_apart peer other None differs = tt
-text_apart peer other (Some bytes) differs = differs
+text_apart peer other text differs = grind (arith, differs)
 
 -- the event of a verb, if there is one, is of no other peer than its companion's
 pub apart_by : (peer who : ℕ) (v : Verb) (events : List TvEvent) (own : History)
     → (is_own v ≡ true → (k : Kind) → (peer_of who k == peer) ≡ false)
     → IfSome (event_by who events own v) (λ e. concerns peer e ≡ false)
-apart_by peer who (verb.Ask reading) events own differs = tt
-apart_by peer who (verb.Take request reading) events own differs = tt
-apart_by peer who (verb.Give take reading) events own differs = tt
-apart_by peer who (verb.Land datagram reading) events own differs = tt
-apart_by peer who (verb.Wall reading) events own differs = tt
-apart_by peer who (verb.Print reading) events own differs = tt
+apart_by peer who (verb.Opening k) events own differs = differs refl k
+apart_by peer who verb.Up events own differs =
+    text_apart peer (peer_of who kind.Ts) (next_up who events own) (differs refl kind.Ts)
+apart_by peer who (verb.Close k) events own differs = differs refl k
 apart_by peer who (verb.Programme content_id) events own differs = refl
 apart_by peer who (verb.Timeline n selector rate base) events own differs = refl
 apart_by peer who (verb.Viewer reading command) events own differs = refl
-apart_by peer who (verb.Opening k) events own differs = differs refl k
-apart_by peer who (verb.Bring k) events own differs = tt
-apart_by peer who verb.Up events own differs =
-    text_apart peer (peer_of who kind.Ts) (next_up who events own) (differs refl kind.Ts)
-apart_by peer who (verb.Present earliest latest) events own differs = tt
-apart_by peer who (verb.Close k) events own differs = differs refl k
-apart_by peer who verb.Sleep events own differs = tt
+apart_by peer who _ events own differs = tt
 
--- so it keeps a peer unknown
-unknown_by : (peer : ℕ) (o : Option TvEvent) (events : List TvEvent) → IfSome o (λ e. concerns peer e ≡ false)
-    → IsUnknown peer (calls_of addresses events).sessions
-    → IsUnknown peer (calls_of addresses (option_to_list o ++ events)).sessions
-unknown_by peer None events other is = is
-unknown_by peer (Some e) events other is = unknown_event peer addresses e events (opens_none peer e other) is
+-- so it opens no session of it
+opens_apart : (peer : ℕ) (o : Option TvEvent) → IfSome o (λ e. concerns peer e ≡ false)
+    → IfSome o (λ e. opens_at peer e ≡ false)
+opens_apart peer o other = grind (arith, other)
 
 -- ---- all lines
 -- before all lines
@@ -82,11 +67,6 @@ one_staged who = record {
   unknown = λ k never. record { life = refl; talk = refl };
 }
 
--- what a line of a companion says of its number
-own_number : (header : Header) (now : Numbered) (older : List Numbered) → AreAccepted header (now ∷ older)
-    → is_own now.line.verb ≡ true → 1 ≤ now.line.who
-own_number header now older accepted own = accepted.1.own own
-
 -- the event of an accepted line is sound
 pub sound_now : (header : Header) (now : Numbered) (older : List Numbered) → AreAccepted header (now ∷ older)
     → AreStaging (length header.companions) (events_of header older) (λ who. history_of who header older)
@@ -94,8 +74,8 @@ pub sound_now : (header : Header) (now : Numbered) (older : List Numbered) → A
     (λ e. IsSound e (calls_of addresses (events_of header older)).sessions)
 sound_now header now older accepted before =
     sound_by now.line.who now.line.verb (events_of header older) (history_of now.line.who header older)
-    accepted.0.verb (can_talk_now header now older accepted)
-    (λ own. before.unknown now.line.who (own_number header now older accepted own))
+    accepted.0.verb (can_talk_now header now older now.line.who refl accepted)
+    (λ own. before.unknown now.line.who (accepted.1.own own))
 
 -- it is of no other companion
 apart_now : (header : Header) (now : Numbered) (older : List Numbered) (who : ℕ) (k : Kind)
@@ -105,7 +85,7 @@ apart_now : (header : Header) (now : Numbered) (older : List Numbered) (who : �
 apart_now header now older who k accepted first differs =
     apart_by (peer_of who k) now.line.who now.line.verb (events_of header older)
     (history_of now.line.who header older)
-    (λ own j. others-peer who now.line.who j k first (own_number header now older accepted own) differs)
+    (λ own j. others-peer who now.line.who j k first (accepted.1.own own) differs)
 
 -- a peer above those of all companions stays unknown
 below_now : (header : Header) (now : Numbered) (older : List Numbered) → AreAccepted header (now ∷ older)
@@ -115,10 +95,10 @@ below_now header now older accepted below peer above =
     let who = now.line.who in
     let events = events_of header older in
     let own = history_of who header older in
-    unknown_by peer (event_by who events own now.line.verb) events
-    (apart_by peer who now.line.verb events own (λ is k.
-    let low = peers-few who (length header.companions) k (own_number header now older accepted is) accepted.1.who in
-    ne_eqb (peer_of who k) peer (λ same. absurd (omega (arith, same, low, above))))) (below peer above)
+    let event = event_by who events own now.line.verb in
+    unknown_by peer event events (opens_apart peer event (apart_by peer who now.line.verb events own (λ is k.
+    let low = peers-few who (length header.companions) k (accepted.1.own is) accepted.1.who in
+    ne_eqb (peer_of who k) peer (λ same. absurd (omega (arith, same, low, above)))))) (below peer above)
 
 -- what a companion never opened stays unknown
 unknown_now : (header : Header) (now : Numbered) (older : List Numbered) (who : ℕ) (k : Kind)
@@ -131,20 +111,14 @@ unknown_now header now older who k accepted first before = elim (eqb_tells now.l
       let own = history_of who header older in
       let made = datagrams header older in
       let v = now.line.verb in
-      let can : can_talk who events own v ≡ true =
-      subst (λ n. can_talk n events (history_of n header older) v ≡ true) same.1
-      (can_talk_now header now older accepted) in
-      let next = stays_unknown header who k first made v events own accepted.0.verb can before in
-      subst (λ (h : History). IsNeverOpened who k (events_of header (now ∷ older)) h)
-      (sym (history_now header now older who same.1))
-      (subst (λ (es : List TvEvent). IsNeverOpened who k es (done_by header who made events v own))
-      (sym (events_now header now older who same.1)) next)
+      let can = can_talk_now header now older who same.1 accepted in
+      let next = stays_unknown header who k made v events own before in
+      rw (history_now header now older who same.1) (rw (events_now header now older who same.1) next)
   | inr differs ↦
-      subst (λ (h : History). IsNeverOpened who k (events_of header (now ∷ older)) h)
-      (sym (history_other header now older who differs.1))
-      (λ never. unknown_by (peer_of who k)
-      (event_by now.line.who (events_of header older) (history_of now.line.who header older) now.line.verb)
-      (events_of header older) (apart_now header now older who k accepted first differs.1) (before never))
+      rw (history_other header now older who differs.1) (let event = event_by now.line.who (events_of header older)
+      (history_of now.line.who header older) now.line.verb in λ never. unknown_by (peer_of who k) event
+      (events_of header older) (opens_apart (peer_of who k) event (apart_now header now older who k accepted first
+      differs.1)) (before never))
 ]
 
 -- after accepted lines the television is staged
@@ -219,25 +193,17 @@ each_end header who P first start kept apart (now ∷ older) accepted =
     let p = each_end header who P first start kept apart older accepted.4 in
     elim (eqb_tells now.line.who who) [
       | inl same ↦
-          let can : can_talk who events own v ≡ true =
-          subst (λ n. can_talk n events (history_of n header older) v ≡ true) same.1
-          (can_talk_now header now older accepted) in
+          let can = can_talk_now header now older who same.1 accepted in
           let es = events_now header now older who same.1 in
           let h = history_now header now older who same.1 in
           let done = done_by header who made events v own in
           let staged : IsStaging who (events_with who events own v) done =
-          subst (λ (xs : List TvEvent). IsStaging who xs done) es
-          (subst (λ (ys : History). IsStaging who (events_of header (now ∷ older)) ys) h after) in
-          subst (λ (ys : History). P (events_of header (now ∷ older)) ys) (sym h)
-          (subst (λ (xs : List TvEvent). P xs done) (sym es)
-          (kept made v events own accepted.0.verb can all.below before staged p))
+          rw es at (rw h at after) in
+          rw h (rw es (kept made v events own accepted.0.verb can all.below before staged p))
       | inr differs ↦
           let h = history_other header now older who differs.1 in
           let event = event_by now.line.who events (history_of now.line.who header older) v in
-          let staged : IsStaging who (events_of header (now ∷ older)) own =
-          subst (λ (ys : History). IsStaging who (events_of header (now ∷ older)) ys) h after in
-          subst (λ (ys : History). P (events_of header (now ∷ older)) ys) (sym h)
-          (apart_kept who P event events own apart
-          (λ k. apart_now header now older who k accepted first differs.1) (sound_now header now older accepted all)
-          before staged p)
+          let staged : IsStaging who (events_of header (now ∷ older)) own = rw h at after in
+          rw h (apart_kept who P event events own apart (λ k. apart_now header now older who k accepted first differs.1)
+          (sound_now header now older accepted all) before staged p)
     ]

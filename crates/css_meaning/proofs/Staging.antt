@@ -1,11 +1,9 @@
 -- The television stands for the events of accepted lines, and all that it tells can be told.
-use Rattle.std.proofs.Common.{◌≡◌, ℕ, zero, suc, ◌*◌, ◌<◌, ◌≤◌, refl, ap, subst, arith, Bool, true, false}
-use Rattle.std.proofs.Common.{cond, not}
+use Rattle.std.proofs.Common.{◌≡◌, ℕ, zero, suc, ◌*◌, ◌<◌, ◌≤◌, refl, ap, arith, Bool, true, false, cond, List}
+use Rattle.std.proofs.Common.{[], ◌∷◌, ◌++◌, length, option_to_list, option_map}
 use Rattle.css_num.specs.declared.protocol.Kind.TheVariants as kind
 use Rattle.css_schedule.specs.Owners.{is_own}
-use Rattle.std.proofs.Common.{List, [], ◌∷◌, ◌++◌, length}
 use Rattle.std.specs.Prelude.{⊤, All, Option, Some, None, IfSome, Result, Ok, Err, IfOk, pos, nat_lt, ◌==◌, codes}
-use Rattle.std.specs.Option.{option_to_list, option_map}
 use Rattle.std.specs.Str.{IsUtf8}
 use Rattle.std.specs.Ordering.{int_eq}
 use Rattle.std.proofs.lemmas.List.Elements.{All-nil, All-cons}
@@ -30,16 +28,15 @@ use Rattle.css_num.specs.declared.protocol.Kind.{Kind}
 use Rattle.css_sessions.specs.declared.session.Session.{Session}
 use Rattle.css_sessions.specs.declared.session.Talk.{Talk}
 use Rattle.css_sessions.specs.declared.session.Talk.TheVariants as talk
-use Rattle.css_sessions.specs.Kept.{Event as SessionsCall, Opened, SetUp, Closed, Presented, Dropped}
-use Rattle.css_sessions.specs.Kept.{Kept, talk_of, set_up_in, step_of}
+use Rattle.css_sessions.specs.Kept.{Event as SessionsCall, Opened, SetUp, Closed, Presented, Dropped, Kept, talk_of}
+use Rattle.css_sessions.specs.Kept.{set_up_in, step_of}
 use Rattle.css_sessions.specs.Told.{StandsFor as SessionsStandFor, IsAccepted, IsTellable, IsControlled, life_of}
 use Rattle.css_sessions.specs.Told.{sessions_of}
 use Rattle.css_sessions.proofs.Telling.{stands_more as sessions_more}
 use Rattle.css_tv.specs.Stages.{Stage, IsStage, max_sessions}
 use Rattle.css_tv.specs.Outcomes.{Outcome, outcome, outcome_at, stage_after, kept_after, by_player, published}
-use Rattle.css_tv.specs.Outcomes.{programme_added, timeline_added, viewed}
-use Rattle.css_tv.specs.Outcomes.{only, hung_up, opened, by_setup, other_than, choice, windows_after, presented}
-use Rattle.css_tv.specs.Outcomes.{by_presentation, heard}
+use Rattle.css_tv.specs.Outcomes.{programme_added, timeline_added, viewed, only, hung_up, opened, by_setup, other_than}
+use Rattle.css_tv.specs.Outcomes.{choice, windows_after, presented, by_presentation, heard}
 use Rattle.css_tv.specs.Standing.{Calls, calls_of, with_outcome}
 use Rattle.css_tv.specs.declared.event.TvEvent.{TvEvent}
 use Rattle.css_tv.specs.declared.event.TvEvent.TheVariants as event
@@ -56,6 +53,7 @@ use Rattle.css_meaning.specs.Verdicts.{can_talk}
 use Rattle.css_meaning.proofs.Opening.{IsUnknown, IsNeverOpened}
 use Rattle.css_meaning.proofs.Playing.{IsPlayable, programme_playable, timeline_playable, command_playable}
 use Rattle.css_meaning.proofs.Playing.{delay_playable, control_in_range, state_readable}
+use Rattle.std.proofs.lemmas.Bool.{not-true}
 
 -- what is shown and told after calls
 abbrev pub stage_by : Addresses → Calls → Stage
@@ -283,11 +281,10 @@ module _ (a : Addresses) (calls : Calls) (staged : IsStaged a calls) where
       let same : o.player ≡ player_of (o.asked ++ calls.player) = grown.player.same in
       let kept : IsStage (stage_after o old) = keeps e old o is staged.stage in
       record {
-        player = subst (λ (p : Player). PlayerStandsFor p (o.asked ++ calls.player)) same grown.player;
+        player = rw same at grown.player;
         sessions = grown.sessions;
-        stage = subst (λ (p : Player). IsStage (staging_of p (sessions_of (o.called ++ calls.sessions)))) same
-            (subst (λ (k : Kept). IsStage (staging_of o.player k)) (kept_all o.called calls.sessions) kept);
-        playable = subst IsPlayable same grown.playable;
+        stage = rw same at (rw (kept_all o.called calls.sessions) at kept);
+        playable = rw same at grown.playable;
       }
 
 -- An event whose parts are in range leaves the television staged.
@@ -323,11 +320,6 @@ pub addresses_ts : IsUtf8 addresses.ts_url
 addresses_ts = ts_utf8 (codes "127.0.0.1") 6677 (omega arith) host_utf8
 
 -- ---- all lines
--- what isn't so is false
-pub not_true : (b : Bool) → not b ≡ true → b ≡ false
-not_true true h = absurd (cc)
-not_true false h = refl
-
 -- the television is staged, and knows nothing of what companion `who` never opened
 pub record IsStaging (who : ℕ) (events : List TvEvent) (own : History) : Type 0 where
   pub staged : IsStaged addresses (calls_of addresses events)
@@ -351,30 +343,20 @@ staging_of_one count who events own first all = record { staged = all.staged; un
 -- whatever text comes, its event is sound
 text_sound : (peer : ℕ) (text : Option (List ℕ)) (h : List SessionsCall)
     → IfSome (option_map (event.Heard peer) text) (λ e. IsSound e h)
-text_sound peer None h = tt
-text_sound peer (Some bytes) h = tt
+text_sound peer text h = grind arith
 
 -- the event of a verb of companion `who`, if there is one, is sound
 pub sound_by : (who : ℕ) (v : Verb) (events : List TvEvent) (own : History) → IsVerb v
     → can_talk who events own v ≡ true → (is_own v ≡ true → (k : Kind) → IsNeverOpened who k events own)
     → IfSome (event_by who events own v) (λ e. IsSound e (calls_of addresses events).sessions)
-sound_by who (verb.Ask reading) events own range can unknown = tt
-sound_by who (verb.Take request reading) events own range can unknown = tt
-sound_by who (verb.Give take reading) events own range can unknown = tt
-sound_by who (verb.Land datagram reading) events own range can unknown = tt
-sound_by who (verb.Wall reading) events own range can unknown = tt
-sound_by who (verb.Print reading) events own range can unknown = tt
 sound_by who (verb.Programme content_id) events own range can unknown = range.utf8
 sound_by who (verb.Timeline n selector rate base) events own range can unknown = (range.selector.utf8, range.rate)
 sound_by who (verb.Viewer reading command) events own range can unknown = range.reading
 sound_by who (verb.Opening k) events own range can unknown =
-    (unknown refl k (not_true (was_opened (peer_of who k) own) can)).life
-sound_by who (verb.Bring k) events own range can unknown = tt
+    (unknown refl k (not-true (was_opened (peer_of who k) own) can)).life
 sound_by who verb.Up events own range can unknown =
     text_sound (peer_of who kind.Ts) (next_up who events own) (calls_of addresses events).sessions
-sound_by who (verb.Present earliest latest) events own range can unknown = tt
-sound_by who (verb.Close k) events own range can unknown = tt
-sound_by who verb.Sleep events own range can unknown = tt
+sound_by who _ events own range can unknown = tt
 
 -- so it leaves the television staged
 pub staged_by : (o : Option TvEvent) (events : List TvEvent) → IsStaged addresses (calls_of addresses events)

@@ -1,9 +1,8 @@
 -- Accepted lines keep what both ends know of the two sessions of a companion.
-use Rattle.std.proofs.Common.{◌≡◌, ℕ, zero, suc, ◌-◌, ◌*◌, ◌≤◌, refl, ap, sym, subst, ◌∙◌, arith}
-use Rattle.std.proofs.Common.{Bool, true, false, ◌||◌, List, [], ◌∷◌, ◌++◌, length}
-use Rattle.std.specs.Prelude.{Option, Some, None, is_some, option_map, unwrap_or, slice_get, All}
-use Rattle.std.specs.Option.{option_to_list}
-use Rattle.std.proofs.lemmas.Bool.{and_parts}
+use Rattle.std.proofs.Common.{◌≡◌, ℕ, zero, suc, ◌-◌, ◌*◌, ◌≤◌, refl, ap, sym, subst, ◌∙◌, arith, Bool, true, false}
+use Rattle.std.proofs.Common.{◌||◌, List, [], ◌∷◌, ◌++◌, length, Option, Some, None, is_some, option_map, unwrap_or}
+use Rattle.std.proofs.Common.{slice_get, All, option_to_list}
+use Rattle.std.proofs.lemmas.Bool.{and_parts, not-true}
 use Rattle.std.proofs.lemmas.List.Elements.{All-head, All-tail}
 use Rattle.std.proofs.lemmas.Str.{IsUtf8-nil}
 use Rattle.css_model.specs.declared.Kind.TheVariants as session
@@ -33,18 +32,15 @@ use Rattle.css_meaning.specs.Sessions.{next_down, next_up}
 use Rattle.css_meaning.specs.Happened.{hearing, done_by}
 use Rattle.css_meaning.specs.Verdicts.{can_talk, IsDeclared}
 use Rattle.css_meaning.proofs.Peers.{cii_of, ts_of, cii-ts, ts-cii}
-use Rattle.css_meaning.proofs.Entries.{dialled-kind, dialled-open, closed-open, wrote-one, received-one}
-use Rattle.css_meaning.proofs.Entries.{dialled-kind_apart, dialled-open_apart, closed-open_apart, received_not}
+use Rattle.css_meaning.proofs.Entries.{dialled-kind, dialled-kind_apart, dialled-open_apart, closed-open_apart}
+use Rattle.css_meaning.proofs.Entries.{dialled-open, closed-open, wrote-one, received-one, received_not, concerns}
 use Rattle.css_meaning.proofs.Ends.{events_with}
-use Rattle.css_meaning.proofs.Entries.{concerns}
 use Rattle.css_meaning.proofs.Staging.{AreBelow, IsSound, IsStaging}
 use Rattle.css_meaning.proofs.Staged.{IsKeptBy, IsKeptApart, one_staged}
-use Rattle.css_meaning.proofs.Staging.{not_true}
 use Rattle.css_meaning.proofs.Lives.{LifeGoesOn, goes_on, shown_after, lived_after, opens_as, closes_as}
 use Rattle.css_meaning.proofs.Talking.{lived_as, published_addresses, HasCii, IsCiiOpened, HasCiiOf, HasTs, HasTsOf}
-use Rattle.css_meaning.proofs.Talking.{IsLifeOf, IsOpened}
-use Rattle.css_meaning.proofs.Talking.{Exchanged, exchanged, IsWrittenAt, AreWritten, written_at, later_written}
-use Rattle.css_meaning.proofs.Talking.{Shows, shows_over, HasTalked, cii_goes, cii_ends, cii_apart}
+use Rattle.css_meaning.proofs.Talking.{IsOpened, Exchanged, exchanged, AreWritten, written_at}
+use Rattle.css_meaning.proofs.Talking.{later_written, Shows, shows_over, HasTalked, cii_goes, cii_ends, cii_apart}
 use Rattle.css_meaning.proofs.Talking.{ts_goes, ts_live, ts_never, ts_becomes, shows_goes, text_comes}
 
 -- no peer above those of 16 companions is known
@@ -118,8 +114,7 @@ module _ (header : Header) (who : ℕ) (first : 1 ≤ who) (events : List TvEven
       } in
       record {
         staging = staging;
-        cii = subst (λ k. HasCii k (is_open cii after) (lived_after cii new)) (sym (dialled-kind cii session.Cii own))
-            (subst (λ live. IsCiiOpened (lived_after cii new) live) (sym (dialled-open cii session.Cii own)) opened);
+        cii = rw (dialled-kind cii session.Cii own) (rw (dialled-open cii session.Cii own) opened);
         ts = ts_as_before new after (dialled-kind_apart ts cii other session.Cii own)
             (dialled-open_apart ts cii other session.Cii own) (ts_on e two);
         written = before.written;
@@ -132,8 +127,7 @@ module _ (header : Header) (who : ℕ) (first : 1 ≤ who) (events : List TvEven
           → HasTsOf header who new own (exchanged who events own)
           → HasTs setup (kind_of ts after) (is_open ts after) (lived_after ts new) (exchanged who events own)
       ts_as_before new after kind live is =
-          subst (λ k. HasTs setup k (is_open ts after) (lived_after ts new) (exchanged who events own)) (sym kind)
-          (subst (λ b. HasTs setup (kind_of ts own) b (lived_after ts new) (exchanged who events own)) (sym live) is)
+          rw kind (rw live is)
 
   -- it closes
   cii_closes : is_open cii own ≡ true
@@ -148,15 +142,11 @@ module _ (header : Header) (who : ℕ) (first : 1 ≤ who) (events : List TvEven
       let x : Bool → Exchanged = λ closed.
       record { written = written_to ts own; received = received_from ts events; closed = closed || is_closed own } in
       let apart : HasTs setup (kind_of ts own) (is_open ts own) (lived_after ts new) (x (is_ts (kind_of cii own))) =
-      subst (λ closed. HasTs setup (kind_of ts own) (is_open ts own) (lived_after ts new) (x closed))
-      (sym (cii_apart header who events own before)) (ts_on e two) in
+      rw (cii_apart header who events own before) (ts_on e two) in
       record {
         staging = staging;
-        cii = subst (λ b. HasCii (kind_of cii own) b (lived_after cii new)) (sym (closed-open cii own))
-            (subst (HasCii (kind_of cii own) false) (sym (closes_as cii events))
-            (cii_ends header who events own before live));
-        ts = subst (λ b. HasTs setup (kind_of ts own) b (lived_after ts new) (x (is_ts (kind_of cii own))))
-            (sym (closed-open_apart ts cii other own)) apart;
+        cii = rw (closed-open cii own) (rw (closes_as cii events) (cii_ends header who events own before live));
+        ts = rw (closed-open_apart ts cii other own) apart;
         written = before.written;
         shows = shows_on e two;
       }
@@ -180,26 +170,21 @@ module _ (header : Header) (who : ℕ) (first : 1 ≤ who) (events : List TvEven
       let opened : IsOpened setup (lived_after ts new) true (exchanged who new after) = record {
         life = Unset;
         is = opens.life;
-        of = subst (λ received. IsLifeOf setup received Unset) (sym was.received) refl;
+        of = rw was.received refl;
         written = omega (arith, ap length writes);
         closed = λ live. refl;
       } in
       record {
         staging = staging;
-        cii = subst (λ k. HasCii k (is_open cii after) (lived_after cii new))
-            (sym (dialled-kind_apart cii ts other session.Ts own))
-            (subst (λ b. HasCii (kind_of cii own) b (lived_after cii new))
-            (sym (dialled-open_apart cii ts other session.Ts own)) (cii_on e one));
-        ts = subst (λ k. HasTs setup k (is_open ts after) (lived_after ts new) (exchanged who new after))
-            (sym (dialled-kind ts session.Ts own))
-            (subst (λ b. IsOpened setup (lived_after ts new) b (exchanged who new after))
-            (sym (dialled-open ts session.Ts own)) opened);
-        written = subst (AreWritten setup) (sym writes) (
-          subst (λ texts. IsWrittenAt setup (setup_text setup) (length texts)) (sym was.written)
-              (setup_reads setup utf8),
+        cii = rw (dialled-kind_apart cii ts other session.Ts own) (subst
+            (λ b. HasCii (kind_of cii own) b (lived_after cii new)) (sym
+            (dialled-open_apart cii ts other session.Ts own)) (cii_on e one));
+        ts = rw (dialled-kind ts session.Ts own) (rw (dialled-open ts session.Ts own) opened);
+        written = rw writes (
+          rw was.written (setup_reads setup utf8),
           before.written,
         );
-        shows = subst (Shows (shown_after new)) (sym opens.life) (λ live. tt);
+        shows = rw opens.life (λ live. tt);
       }
 
   -- it closes
@@ -222,13 +207,11 @@ module _ (header : Header) (who : ℕ) (first : 1 ≤ who) (events : List TvEven
       } in
       record {
         staging = staging;
-        cii = subst (λ b. HasCii (kind_of cii own) b (lived_after cii new)) (sym (closed-open_apart cii ts other own))
-            (cii_on e (goes cii e tt other));
-        ts = subst (λ b. HasTs setup (kind_of ts own) b (lived_after ts new) (exchanged who new after))
-            (sym (closed-open ts own))
-            (ts_becomes header who events own before false new (exchanged who new after) live shut);
+        cii = rw (closed-open_apart cii ts other own) (cii_on e (goes cii e tt other));
+        ts = rw (closed-open ts own) (ts_becomes header who events own before false new (exchanged who new after) live
+            shut);
         written = before.written;
-        shows = subst (Shows (shown_after new)) (sym over) (shows_over (shown_after new) (lived_after ts events));
+        shows = rw over (shows_over (shown_after new) (lived_after ts events));
       }
 
   -- the companion writes a presentation
@@ -250,8 +233,7 @@ module _ (header : Header) (who : ℕ) (first : 1 ≤ who) (events : List TvEven
           written = omega (arith, ap length writes);
           closed = was.closed;
         });
-        written = subst (AreWritten setup) (sym writes)
-            (later_written setup q (length (written_to ts own)) ranged was.written, before.written);
+        written = rw writes (later_written setup q (length (written_to ts own)) ranged was.written, before.written);
         shows = before.shows;
       }
 
@@ -272,7 +254,7 @@ module _ (header : Header) (who : ℕ) (first : 1 ≤ who) (events : List TvEven
       record {
         staging = staging;
         cii = cii_on e (goes cii e tt (ts-cii who first));
-        ts = subst (λ texts. HasTsOf header who new own (x texts)) (sym (received-one ts bytes events))
+        ts = rw (received-one ts bytes events)
             (ts_becomes header who events own before (is_open ts own) new (x (bytes ∷ received)) live (record {
               life = comes.life;
               is = comes.is ∙ ap (lived_as comes.life) (sym live);
@@ -328,16 +310,6 @@ module _ (header : Header) (who : ℕ) (first : 1 ≤ who) (events : List TvEven
       → can_talk who events own v ≡ true
       → IsStaging who (events_with who events own v) (done_by header who made events v own)
       → HasTalked header who (events_with who events own v) (done_by header who made events v own)
-  talked_by (verb.Ask reading) made few utf8 range can staging =
-      silent _ staging before.cii before.ts before.written
-  talked_by (verb.Take request reading) made few utf8 range can staging = before
-  talked_by (verb.Give take reading) made few utf8 range can staging = before
-  talked_by (verb.Land datagram reading) made few utf8 range can staging =
-      silent _ staging before.cii before.ts before.written
-  talked_by (verb.Wall reading) made few utf8 range can staging =
-      silent _ staging before.cii before.ts before.written
-  talked_by (verb.Print reading) made few utf8 range can staging =
-      silent _ staging before.cii before.ts before.written
   talked_by (verb.Programme content_id) made few utf8 range can staging =
       event_talked (event.Programme content_id) (λ k. refl) range.utf8 staging
   talked_by (verb.Timeline n selector rate base) made few utf8 range can staging =
@@ -345,7 +317,7 @@ module _ (header : Header) (who : ℕ) (first : 1 ≤ who) (events : List TvEven
   talked_by (verb.Viewer reading command) made few utf8 range can staging =
       event_talked (event.Viewer command reading) (λ k. refl) range.reading staging
   talked_by (verb.Opening k) made few utf8 range can staging =
-      opens_talked k made few utf8 (not_true (was_opened (peer_of who k) own) can) staging
+      opens_talked k made few utf8 (not-true (was_opened (peer_of who k) own) can) staging
   talked_by (verb.Bring k) made few utf8 range can staging =
       brings_talked (peer_of who k) (next_down who k events own) staging
   talked_by verb.Up made few utf8 range can staging =
@@ -354,7 +326,7 @@ module _ (header : Header) (who : ℕ) (first : 1 ≤ who) (events : List TvEven
   talked_by (verb.Present earliest latest) made few utf8 range can staging =
       ts_writes (window earliest latest) can range staging
   talked_by (verb.Close k) made few utf8 range can staging = closes_talked k made can staging
-  talked_by verb.Sleep made few utf8 range can staging = silent _ staging before.cii before.ts before.written
+  talked_by _ made few utf8 range can staging = silent _ staging before.cii before.ts before.written
 
 -- no peer above those of 16 companions is known
 are_few : (header : Header) (events : List TvEvent) → IsCount (length header.companions)

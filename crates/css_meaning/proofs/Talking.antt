@@ -103,9 +103,7 @@ cii_on (Some _) live p q old new on has = absurd has
 -- an open one has its states
 cii_opened : (k : Option Dialling) (live : Bool) (lived : Option Lived) → live ≡ true → HasCii k live lived
     → (k ≡ Some session.Cii) × IsCiiOpened lived live
-cii_opened None live lived on has = absurd (let both : true ≡ false = sym on ∙ has.1 in cc)
-cii_opened (Some session.Cii) live lived on has = (refl, has)
-cii_opened (Some _) live lived on has = absurd has
+cii_opened k live lived on has = grind (arith, on, has)
 
 -- one that closes is over
 cii_over : (k : Option Dialling) (live : Bool) (lived : Option Lived) → live ≡ true → HasCii k live lived
@@ -121,9 +119,7 @@ cii_over (Some _) live lived on has = absurd has
 
 -- and it isn't one of CSS-TS
 cii_not_ts : (k : Option Dialling) (live : Bool) (lived : Option Lived) → HasCii k live lived → is_ts k ≡ false
-cii_not_ts None live lived has = refl
-cii_not_ts (Some session.Cii) live lived has = refl
-cii_not_ts (Some _) live lived has = absurd has
+cii_not_ts k live lived has = grind (arith, has)
 
 -- ---- the session of CSS-TS
 -- What both ends know of a session of CSS-TS: the texts that its companion wrote, those that the television received,
@@ -191,9 +187,7 @@ ts_on setup (Some _) live p q old new x on has = absurd has
 -- an open one has its life
 ts_opened : (setup : Setup) (k : Option Dialling) (live : Bool) (lived : Option Lived) (x : Exchanged) → live ≡ true
     → HasTs setup k live lived x → (k ≡ Some session.Ts) × IsOpened setup lived live x
-ts_opened setup None live lived x on has = absurd (let both : true ≡ false = sym on ∙ has.shut in cc)
-ts_opened setup (Some session.Ts) live lived x on has = (refl, has)
-ts_opened setup (Some _) live lived x on has = absurd has
+ts_opened setup k live lived x on has = grind (arith, on, has)
 
 -- and one that was never opened has none
 ts_unopened : (setup : Setup) (k : Option Dialling) (live : Bool) (lived : Option Lived) (x : Exchanged)
@@ -250,22 +244,11 @@ Shows p (Some l) = l.over ≡ false → ShowsLife p l.life
 -- so it was where each setup has the same control
 shows_same : (p q : Player) (o : Option Lived) → ((u : Setup) → control_for u q ≡ control_for u p) → Shows p o
     → Shows q o
-shows_same p q None same shows = tt
-shows_same p q (Some l) same shows = λ on. go l.life (shows on) where
-  go : (life : Life) → ShowsLife p life → ShowsLife q life
-  go (CiiLife s ss) shows = tt
-  go Unset shows = tt
-  go (TsLife u r ps) shows = shows ∙ sym (same u)
+shows_same p q o same shows = grind (arith, same, shows)
 
 -- and where what is shown is published
 shows_grown : (q : Player) (o : Option Lived) → Shows q (option_map (living (grown_by q)) o)
-shows_grown q None = tt
-shows_grown q (Some l) = go l.life l.over where
-  go : (life : Life) (over : Bool) → Shows q (Some (living (grown_by q) (record { life = life; over = over })))
-  go life true = λ on. absurd (let no : true ≡ false = on in cc)
-  go (CiiLife t ss) false = λ on. tt
-  go Unset false = λ on. tt
-  go (TsLife u r ps) false = λ on. refl
+shows_grown q o = grind arith
 
 -- so it stays where the life goes on
 shows_on : (p q : Player) (old new : Option Lived) → GoesOn p q old new → Shows p old → Shows q new
@@ -274,8 +257,7 @@ shows_on p q old new (inr grown) shows = subst (Shows q) (sym grown) (shows_grow
 
 -- of a session that is over nothing is said
 pub shows_over : (p : Player) (o : Option Lived) → Shows p (option_map ended o)
-shows_over p None = tt
-shows_over p (Some l) = λ on. absurd (let no : true ≡ false = on in cc)
+shows_over p o = grind arith
 
 -- ---- both ends
 -- what both ends know of companion `who`'s session of CSS-TS
@@ -359,8 +341,7 @@ module _ (header : Header) (who : ℕ) (events : List TvEvent) (own : History)
   pub ts_becomes : (live : Bool) (new : List TvEvent) (x : Exchanged) → is_open (ts_of who) own ≡ true
       → IsOpened (setup_of who header) (lived_after (ts_of who) new) live x
       → HasTs (setup_of who header) (kind_of (ts_of who) own) live (lived_after (ts_of who) new) x
-  ts_becomes live new x was is =
-      subst (λ k. HasTs (setup_of who header) k live (lived_after (ts_of who) new) x) (sym (ts_live was).0) is
+  ts_becomes live new x was is = rw (ts_live was).0 is
 
   -- one that was never opened has none
   pub ts_never : is_some (kind_of (ts_of who) own) ≡ false

@@ -1,10 +1,8 @@
 -- Where the tickets of accepted lines come from.
-use Rattle.std.proofs.Common.{◌≡◌, ℕ, suc, ◌<◌, ◌≤◌, ◌⊎◌, inl, inr, arith, ap, sym, subst, ◌∙◌}
-use Rattle.std.proofs.Common.{refl, Bool, true, false, cond, ◌==◌, List, [], ◌∷◌, ◌++◌, length}
-use Rattle.std.specs.Prelude.{All, Option, Some, None, is_some, Result}
-use Rattle.std.specs.Option.{option_map, option_and_then, option_to_list}
+use Rattle.std.proofs.Common.{◌≡◌, ℕ, suc, ◌<◌, ◌≤◌, ◌⊎◌, inl, inr, arith, ap, sym, subst, ◌∙◌, refl, Bool, true, false}
+use Rattle.std.proofs.Common.{cond, ◌==◌, List, [], ◌∷◌, ◌++◌, length, All, Option, Some, None, is_some, Result}
+use Rattle.std.proofs.Common.{eqb-true, option_map, option_and_then, option_to_list}
 use Rattle.std.specs.Result.{result_ok}
-use Rattle.std.proofs.lemmas.Bool.{eqb-true}
 use Rattle.std.proofs.lemmas.Bool.Decides.{eqb_tells}
 use Rattle.css_model.specs.declared.TheConstants.{LIMIT}
 use Rattle.css_model.specs.declared.Stamp.{Stamp}
@@ -22,8 +20,8 @@ use Rattle.css_schedule.specs.declared.header.Header.{Header}
 use Rattle.css_schedule.specs.declared.line.Verb.{Verb}
 use Rattle.css_schedule.specs.declared.line.Verb.TheVariants.{Ask, Take}
 use Rattle.css_schedule.specs.Ranges.{IsVerb}
-use Rattle.css_meaning.specs.Happened.{Numbered, asked_by, requests, askers, ticket_at, ticket_by, asker_by}
-use Rattle.css_meaning.specs.Happened.{tickets, taken_for, datagrams, events_of, history_of, peer}
+use Rattle.css_meaning.specs.Happened.{Numbered, asked_by, requests, askers, ticket_at, ticket_by, asker_by, tickets}
+use Rattle.css_meaning.specs.Happened.{taken_for, datagrams, events_of, history_of, peer}
 use Rattle.css_meaning.specs.Numbering.{numbered}
 use Rattle.css_meaning.specs.Verdicts.{tv_reading}
 use Rattle.css_meaning.specs.Accepted.{AreAccepted}
@@ -31,18 +29,13 @@ use Rattle.css_meaning.specs.Worlds.{moment}
 use Rattle.css_meaning.proofs.Worlds.{all-head, all-tail, tested_ok}
 use Rattle.css_meaning.proofs.Ends.{history_now, history_other}
 use Rattle.css_meaning.proofs.Lawful.{done_at, once_by, request_back}
-use Rattle.css_meaning.proofs.Moments.{Agrees, NearBy, tv_near, entries-here}
+use Rattle.css_meaning.proofs.Moments.{Agrees, AreHere, NearBy, tv_near, entries-here}
 
 -- ---- lists
 -- an item with a number is among the items
 pub numbered-in : {A : Type 0} (number : ℕ) (items : List A) (a : A) → numbered number items ≡ Some a → IsIn a items
 numbered-in number [] a e = absurd (cc)
-numbered-in number (item ∷ older) a e = by (number == suc (length older)) e (numbered-in number older a)
-  where
-    by : (b : Bool) → cond b (Some item) (numbered number older) ≡ Some a
-        → (numbered number older ≡ Some a → IsIn a older) → IsIn a (item ∷ older)
-    by true p next = inl (cc)
-    by false p next = inr (next p)
+numbered-in number (item ∷ older) a e = let next = numbered-in number older a in grind (arith, e, next)
 
 -- items of two lists of equal length have the same numbers
 pub numbered-both : {A B : Type 0} (number : ℕ) (xs : List A) (ys : List B) → length xs ≡ length ys
@@ -52,25 +45,13 @@ numbered-both number [] (y ∷ ys) same = absurd (omega (arith, same))
 numbered-both number (x ∷ xs) [] same = absurd (omega (arith, same))
 numbered-both number (x ∷ xs) (y ∷ ys) same =
     let counts : length xs ≡ length ys = omega (arith, same) in
-    by (number == suc (length xs)) (number == suc (length ys)) (ap (λ n. number == suc n) counts)
-    (numbered-both number xs ys counts)
-  where
-    by : (a b : Bool) → a ≡ b → is_some (numbered number xs) ≡ is_some (numbered number ys)
-        → is_some (cond a (Some x) (numbered number xs)) ≡ is_some (cond b (Some y) (numbered number ys))
-    by true true equal older = refl
-    by false false equal older = older
-    by true false equal older = absurd (cc)
-    by false true equal older = absurd (cc)
+    let older = numbered-both number xs ys counts in grind (arith, counts, older)
 
 -- an item of two lists, one after the other, is among one of them
 pub in-append : {A : Type 0} (xs ys : List A) (a : A) → IsIn a (xs ++ ys) → IsIn a xs ⊎ IsIn a ys
 in-append [] ys a h = inr h
 in-append (x ∷ xs) ys a (inl e) = inl (inl e)
-in-append (x ∷ xs) ys a (inr h) = by (in-append xs ys a h)
-  where
-    by : IsIn a xs ⊎ IsIn a ys → IsIn a (x ∷ xs) ⊎ IsIn a ys
-    by (inl p) = inl (inr p)
-    by (inr q) = inr q
+in-append (x ∷ xs) ys a (inr h) = let before = in-append xs ys a h in grind (arith, before)
 
 -- what holds of all items holds of each
 all-in : {A : Type 0} (P : A → Type 0) (items : List A) (a : A) → All P items → IsIn a items → P a
@@ -94,36 +75,15 @@ numbered-older number item older a is e =
 -- each request has its companion
 pub askers_count : (lines : List Numbered) → length (askers lines) ≡ length (requests lines)
 askers_count [] = refl
-askers_count (now ∷ older) = by (asked_by now.line.verb) (askers_count older)
-  where
-    by : (o : Option ℕ) → length (askers older) ≡ length (requests older)
-        → length (option_to_list (option_map (λ reading. now.line.who) o) ++ askers older)
-        ≡ length (option_to_list o ++ requests older)
-    by None same = same
-    by (Some reading) same = ap suc same
+askers_count (now ∷ older) = let same = askers_count older in grind (arith, same)
 
 -- so has each take
 pub takes_count : (header : Header) (lines : List Numbered) → length (taken_for lines) ≡ length (tickets header lines)
 takes_count header [] = refl
-takes_count header (now ∷ older) = by now.line.verb (takes_count header older)
-  where
-    both : (reading : ℕ) (o w : Option ℕ) → is_some o ≡ is_some w
-        → length (taken_for older) ≡ length (tickets header older)
-        → length (option_to_list w ++ taken_for older)
-        ≡ length (option_to_list (option_map (ticket_at header (tickets header older) reading) o) ++ tickets header
-        older)
-    both reading None None same counts = counts
-    both reading (Some asked) (Some who) same counts = ap suc counts
-    both reading None (Some who) same counts = absurd (cc)
-    both reading (Some asked) None same counts = absurd (cc)
-
-    by : (v : Verb) → length (taken_for older) ≡ length (tickets header older)
-        → length (option_to_list (asker_by (askers older) v) ++ taken_for older)
-        ≡ length (option_to_list (ticket_by header (requests older) (tickets header older) v) ++ tickets header older)
-    by (Take request reading) counts =
-        both reading (numbered request (requests older)) (numbered request (askers older))
-        (numbered-both request (requests older) (askers older) (sym (askers_count older))) counts
-    by _ counts = counts
+takes_count header (now ∷ older) =
+    let same = takes_count header older in
+    let both = λ (request : ℕ). numbered-both request (requests older) (askers older) (sym (askers_count older)) in
+    grind (arith, same, both)
 
 -- ---- requests
 -- The request of a reading was sent by companion `who` at lines, in the entry of that number.
@@ -142,11 +102,9 @@ was-longer header who now older originate ask h =
     × (asked : IsJustAsked originate before) × (ask ≡ length asked.before) in
     elim (eqb_tells now.line.who who) [
       | inl own ↦
-          subst (λ (x : History). WasAsked originate ask x) (sym (history_now header now older who own.1))
-          (once_by P header who (datagrams header older) (events_of header older) now.line.verb
-          (history_of who header older) h)
-      | inr other ↦ subst (λ (x : History). WasAsked originate ask x) (sym (history_other header now older who other.1))
-          h
+          rw (history_now header now older who own.1) (once_by P header who (datagrams header older)
+          (events_of header older) now.line.verb (history_of who header older) h)
+      | inr other ↦ rw (history_other header now older who other.1) h
     ]
 
 -- what was sent stays so
@@ -182,12 +140,6 @@ sent-now header who older reading range =
       refl,
     )
 
--- the entries of a line of companion `who` that says this are made at the moment of the line
-abbrev pub AreHere : (ℕ → ℕ) → Header → ℕ → List Numbered → Verb → Type 0
-AreHere moment_of header who older verb =
-    (entry : ℕ) → length (history_of who header older) ≤ entry → entry < length (done_at header older who verb)
-    → moment_of entry ≡ length older
-
 -- a request of this line was sent at its moment
 sent_by-line : (moment_of : ℕ → ℕ) (header : Header) (who : ℕ) (now : Numbered) (older : List Numbered) (reading : ℕ)
     (verb : Verb) → now.line.verb ≡ verb → now.line.who ≡ who
@@ -196,17 +148,12 @@ sent_by-line : (moment_of : ℕ → ℕ) (header : Header) (who : ℕ) (now : Nu
 sent_by-line moment_of header who now older reading (Ask asked) is own range here e =
     let h : History = history_of who header older in
     let same : asked ≡ reading = cc in
-    let here_too : AreHere moment_of header who older (Ask asked) =
-    subst (AreHere moment_of header who older) is here in
+    let here_too : AreHere moment_of header who older (Ask asked) = rw is at here in
     let at : moment_of (length h) ≡ length older = here_too (length h) (omega arith) (omega arith) in
-    let in_range : reading < LIMIT = subst (λ (r : ℕ). r < LIMIT) same range in
+    let in_range : reading < LIMIT = rw same at range in
     record {
       ask = length h;
-      was = subst (λ (x : History). WasAsked (stamp_of reading) (length h) x)
-          (sym (history_now header now older who own))
-          (subst (λ (v : Verb). WasAsked (stamp_of reading) (length h) (done_at header older who v)) (sym is)
-          (subst (λ (r : ℕ). WasAsked (stamp_of reading) (length h) (done_at header older who (Ask r))) (sym same)
-          (sent-now header who older reading in_range)));
+      was = rw (history_now header now older who own) (rw is (rw same (sent-now header who older reading in_range)));
       before = omega (arith, at);
       range = in_range;
     }
@@ -365,13 +312,7 @@ taken_each world moment_of header who (now ∷ older) number ticket accepted agr
 -- ---- promises
 promised_by : (header : Header) (asked : List ℕ) (older : List Ticket) (verb : Verb) → ArePromised header.follow older
     → ArePromised header.follow (option_to_list (ticket_by header asked older verb) ++ older)
-promised_by header asked older (Take request reading) h = by (numbered request asked)
-  where
-    by : (o : Option ℕ)
-        → ArePromised header.follow (option_to_list (option_map (ticket_at header older reading) o) ++ older)
-    by None = h
-    by (Some asked) = (refl, h)
-promised_by header asked older _ h = h
+promised_by header asked older verb h = grind (arith, h)
 
 -- follow-ups are promised as the television does
 pub are_promised : (header : Header) (lines : List Numbered) → ArePromised header.follow (tickets header lines)

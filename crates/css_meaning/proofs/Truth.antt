@@ -1,10 +1,8 @@
 -- The span at each `wall` line of accepted lines contains the wall clock, and no landing contradicts itself.
-use Rattle.std.proofs.Common.{◌≡◌, ℕ, suc, ◌≤◌, ◌⊎◌, inl, inr, arith, ap, sym, subst, ◌∙◌, refl}
-use Rattle.std.proofs.Common.{Bool, true, false, cond, not, ◌==◌, List, [], ◌∷◌, length}
-use Rattle.std.specs.Prelude.{Option, Some, None, IfSome, IsTrue, Result, Ok, ◌&&◌, pos, int_lt}
-use Rattle.std.specs.Option.{option_map}
-use Rattle.std.proofs.lemmas.Bool.{and_parts, eqb-true}
-use Rattle.std.proofs.lemmas.Bool.Decides.{eqb_tells}
+use Rattle.std.proofs.Common.{◌≡◌, ℕ, suc, ◌≤◌, ◌⊎◌, inl, inr, arith, ap, sym, subst, ◌∙◌, refl, Bool, true, false}
+use Rattle.std.proofs.Common.{cond, not, ◌==◌, List, ◌∷◌, length, eqb-true, Option, Some, None, IfSome, IsTrue, Result}
+use Rattle.std.proofs.Common.{Ok, ◌&&◌, pos, int_lt, option_map}
+use Rattle.std.proofs.lemmas.Bool.{and_parts}
 use Rattle.css_schedule.specs.Owners.{is_own}
 use Rattle.css_num.specs.Spans.{Covers}
 use Rattle.css_model.specs.declared.Stamp.{Stamp}
@@ -16,9 +14,8 @@ use Rattle.css_model.specs.World.{World, IsWorldFor}
 use Rattle.css_model.specs.Wire.{decoded, stamp_of, reading_of, is_same_stamp}
 use Rattle.css_model.specs.WallClock.{Local, Answer, scaled_width}
 use Rattle.css_model.specs.Truth.{Contains}
-use Rattle.css_model.specs.History.{Entry, History, Clock, Took, Dialled, Heard, Wrote, Closed, Each}
-use Rattle.css_model.specs.History.{LandedAnswer, landed_answer, landed_answers, answer_in, is_asked}
-use Rattle.css_model.specs.History.{is_promise_of, is_possible, times_of, accepted_answers, wall_answer}
+use Rattle.css_model.specs.History.{Entry, LandedAnswer, landed_answer, landed_answers, is_promise_of, accepted_answers}
+use Rattle.css_model.specs.History.{History, Clock, Took, Each, answer_in, is_asked, is_possible, times_of, wall_answer}
 use Rattle.css_model.specs.Explains.{WasAsked, IsTruthful, TruthfulAt, Explains, IsAccepted, AcceptsAt, ContainsAt}
 use Rattle.css_model.proofs.Lately.{IsIn, is_same_stamp-true}
 use Rattle.css_model.proofs.Requests.{reading_of-stamp_of}
@@ -31,25 +28,22 @@ use Rattle.css_client.specs.declared.landing.Landing.TheVariants as landings
 use Rattle.css_span.specs.WallSpans.{span_of, wall_span}
 use Rattle.css_schedule.specs.declared.header.Header.{Header}
 use Rattle.css_schedule.specs.declared.line.Verb.{Verb}
-use Rattle.css_schedule.specs.declared.line.Verb.TheVariants.{Ask, Land, Wall, Print, Opening, Bring, Present, Close}
-use Rattle.css_schedule.specs.declared.line.Verb.TheVariants.{Sleep}
-use Rattle.css_meaning.specs.Happened.{Numbered, tickets, datagrams, bytes_of, events_of, history_of, peer}
+use Rattle.css_schedule.specs.declared.line.Verb.TheVariants.{Ask, Land, Wall}
+use Rattle.css_meaning.specs.Happened.{Numbered, tickets, datagrams, bytes_of, history_of, peer}
 use Rattle.css_meaning.specs.Numbering.{numbered}
 use Rattle.css_meaning.specs.Worlds.{world_of, moment_number, errors_of}
 use Rattle.css_meaning.specs.Verdicts.{local_of, IsDeclared, can_exchange}
 use Rattle.css_meaning.specs.Accepted.{AreAccepted}
 use Rattle.css_meaning.specs.Truth.{IsTrueWall, IsPossibleLanding, AcceptedLinesAreTrue, AcceptedLinesAreWorld}
-use Rattle.css_meaning.proofs.Worlds.{carried_ok}
 use Rattle.css_meaning.proofs.Accepting.{keeps_errors}
-use Rattle.css_meaning.proofs.Lawful.{done_at, IsTalk, each_talk, is_lawful}
-use Rattle.css_meaning.proofs.Ends.{history_now, history_other}
-use Rattle.css_meaning.proofs.Tickets.{AreHere}
-use Rattle.css_meaning.proofs.Moments.{Agrees, agrees, entries-here, happens}
+use Rattle.css_meaning.proofs.Lawful.{done_at, IsTalk, Adds, each_line, is_lawful}
+use Rattle.css_meaning.proofs.Ends.{history_now, can_exchange_now}
+use Rattle.css_meaning.proofs.Moments.{Agrees, AreHere, agrees, entries-here, happens}
 use Rattle.css_meaning.proofs.Tickets.{are_promised, one_promise}
-use Rattle.css_meaning.proofs.Made.{Made, made, made_each, one_giving, can-happen, can-exchange}
+use Rattle.css_meaning.proofs.Made.{Made, made, made_each, one_giving}
 use Rattle.css_meaning.proofs.Reporting.{true_line}
-use Rattle.css_meaning.proofs.Landed.{lands, is_answer, message_back, answer-in, landing_if}
-use Rattle.css_meaning.proofs.Landed.{landing-is, CameFrom, CameAt, came_each, each-map}
+use Rattle.css_meaning.proofs.Landed.{lands, is_answer, message_back, answer-in, landing_if, landing-is, CameFrom}
+use Rattle.css_meaning.proofs.Landed.{CameAt, came_each, each-map}
 
 -- ---- a follow-up and the response that promised it
 same_reading : (r s : ℕ) → is_same_stamp (stamp_of r) (stamp_of s) ≡ true → r ≡ s
@@ -163,22 +157,18 @@ module _ (world : World) (moment_of : ℕ → ℕ) (header : Header) (who : ℕ)
   -- nothing lands with an entry of a session
   truthful_talk : (entry : Entry) (before : History)
       → IsTalk entry → TruthfulAt world header.tv_error (local_of who header) moment_of entry before
-  truthful_talk (Dialled kind other) before talk = tt
-  truthful_talk (Heard other bytes) before talk = tt
-  truthful_talk (Wrote other bytes) before talk = tt
-  truthful_talk (Closed other) before talk = tt
-  truthful_talk _ before talk = absurd talk
+  truthful_talk entry before talk = grind (arith, talk)
 
   -- each answer that lands is truthful, or isn't accepted
-  abbrev AreTruthful : History → Type 0
-  AreTruthful history = Each (TruthfulAt world header.tv_error (local_of who header) moment_of) history
+  abbrev IsTruthfulAt : Entry → History → Type 0
+  IsTruthfulAt = TruthfulAt world header.tv_error (local_of who header) moment_of
 
   -- what lands by one verb is truthful
   truthful_by : (older : List Numbered) (verb : Verb) → AreAccepted header older
       → Agrees world moment_of header who older → can_exchange header older who verb ≡ true
       → AreHere moment_of header who older verb
-      → AreTruthful (history_of who header older) → AreTruthful (done_at header older who verb)
-  truthful_by older (Land datagram reading) accepted agreed can here each =
+      → Adds IsTruthfulAt (datagrams header older) verb (history_of who header older)
+  truthful_by older (Land datagram reading) accepted agreed can here =
       let own : Local = local_of who header in
       let h : History = history_of who header older in
       let l = lands header older who datagram can in
@@ -196,38 +186,21 @@ module _ (world : World) (moment_of : ℕ → ℕ) (header : Header) (who : ℕ)
             (λ landed. IsTrue (is_possible own landed (landed_answers (Took peer bytes ∷ h)))
             → IsTruthful world header.tv_error moment_of landed (Took peer bytes ∷ h)))
             [ true ↦ (λ possible. true_so) | false ↦ tt ]),
-        (tt, each),
+        tt,
       )
-  truthful_by older (Ask reading) accepted agreed can here each = (tt, (tt, each))
-  truthful_by older (Wall reading) accepted agreed can here each = (tt, each)
-  truthful_by older (Print reading) accepted agreed can here each = (tt, each)
-  truthful_by older (Opening kind) accepted agreed can here each =
-      each_talk _ header who (datagrams header older) (events_of header older) (Opening kind)
-      (history_of who header older) tt truthful_talk each
-  truthful_by older (Bring kind) accepted agreed can here each =
-      each_talk _ header who (datagrams header older) (events_of header older) (Bring kind)
-      (history_of who header older) tt truthful_talk each
-  truthful_by older (Present earliest latest) accepted agreed can here each = (tt, each)
-  truthful_by older (Close kind) accepted agreed can here each = (tt, each)
-  truthful_by older Sleep accepted agreed can here each = (tt, each)
-  truthful_by older _ accepted agreed can here each = each
+  truthful_by older (Ask reading) accepted agreed can here = (tt, tt)
+  truthful_by older _ accepted agreed can here = tt
 
   -- so is what lands by all lines
   truthful_each : (lines : List Numbered) → AreAccepted header lines → Agrees world moment_of header who lines
-      → AreTruthful (history_of who header lines)
-  truthful_each [] accepted agreed = tt
-  truthful_each (now ∷ older) accepted agreed =
-      let before = truthful_each older accepted.4 agreed.2 in
-      elim (eqb_tells now.line.who who) [
-        | inl own ↦
-            subst AreTruthful (sym (history_now header now older who own.1))
-            (truthful_by older now.line.verb accepted.4 agreed.2
-            (subst (λ n. can_exchange header older n now.line.verb ≡ true) own.1
-            (can-exchange header older now.line.who now.line.verb
-            (can-happen header older now accepted.3.0 (carried_ok header older now accepted.3.0 accepted.3.1))))
-            (entries-here moment_of header who now older own.1 agreed.1) before)
-        | inr other ↦ subst AreTruthful (sym (history_other header now older who other.1)) before
-      ]
+      → Each IsTruthfulAt (history_of who header lines)
+  truthful_each lines accepted agreed =
+      each_line header who IsTruthfulAt
+      (λ ls. AreAccepted header ls × Agrees world moment_of header who ls) truthful_talk
+      (λ now older known. (known.0.4, known.1.2)) (λ now older own known.
+      truthful_by older now.line.verb known.0.4 known.1.2
+      (can_exchange_now header now older who own known.0)
+      (entries-here moment_of header who now older own known.1.1)) lines (accepted, agreed)
 
 -- the world of accepted lines explains what a companion did
 pub explained : (header : Header) (who : ℕ) (lines : List Numbered) → 1 ≤ who → IsDeclared header
@@ -265,11 +238,6 @@ covers : (own : Local) (reading wall : ℕ) (answer : Option Answer)
 covers own reading wall None contains = tt
 covers own reading wall (Some answer) contains = record { low = contains.low; high = contains.high }
 
--- the companion of a line at which one takes part
-companion_of : (header : Header) (now : Numbered) (older : List Numbered) → AreAccepted header (now ∷ older)
-    → is_own now.line.verb ≡ true → 1 ≤ now.line.who
-companion_of header now older accepted own = accepted.1.own own
-
 -- the history with the reading of a `wall` line
 wall-history : (header : Header) (now : Numbered) (older : List Numbered) (reading : ℕ)
     → now.line.verb ≡ Wall reading
@@ -282,7 +250,7 @@ true_wall : (header : Header) (older : List Numbered) (now : Numbered) → IsDec
     → AreAccepted header (now ∷ older) → IsTrueWall header older now
 true_wall header older now declared accepted = λ reading is.
     let who = now.line.who in
-    let first = companion_of header now older accepted (ap is_own is) in
+    let first = accepted.1.own (ap is_own is) in
     let own : Local = local_of who header in
     let lines : List Numbered = now ∷ older in
     let h : History = history_of who header older in
@@ -355,7 +323,7 @@ possible_landing : (header : Header) (older : List Numbered) (now : Numbered) �
     → AreAccepted header (now ∷ older) → IsPossibleLanding header older now
 possible_landing header older now declared accepted = λ datagram reading is.
     let who = now.line.who in
-    let first = companion_of header now older accepted (ap is_own is) in
+    let first = accepted.1.own (ap is_own is) in
     let own : Local = local_of who header in
     let lines : List Numbered = now ∷ older in
     let h : History = history_of who header older in
@@ -367,8 +335,7 @@ possible_landing header older now declared accepted = λ datagram reading is.
     (happens header who lines first accepted) in
     let there = subst (λ (x : History). Each (AcceptsAt world header.tv_error own moment_of) x)
     (land-history header now older datagram reading is) each in
-    let can = can-exchange header older who now.line.verb
-    (can-happen header older now accepted.3.0 (carried_ok header older now accepted.3.0 accepted.3.1)) in
+    let can = can_exchange_now header now older who refl accepted in
     let l = lands header older who datagram (subst (λ (v : Verb). can_exchange header older who v ≡ true) is can) in
     let agreed = agrees header who lines in
     let made_so = made_each world moment_of header who older l.d first accepted.4 agreed.2 l.owned l.is_made in

@@ -1,10 +1,8 @@
 -- Accepted lines are the moments of a world that keeps the declared errors.
-use Rattle.std.proofs.Common.{◌≡◌, ◌≢◌, ℕ, zero, suc, ◌<◌, ◌≤◌, arith, ap, sym, subst, ◌∙◌, refl, Bool, inl, inr}
-use Rattle.std.proofs.Common.{true, false, cond, not, ◌==◌, ltb, List, [], ◌∷◌, map, length, ne_eqb}
-use Rattle.std.specs.Prelude.{◌&&◌, All, Some, None, Result, Ok, Err}
-use Rattle.std.specs.List.{filter}
+use Rattle.std.proofs.Common.{◌≡◌, ◌≢◌, ℕ, zero, suc, ◌<◌, ◌≤◌, arith, ap, sym, subst, ◌∙◌, refl, Bool, inl, inr, true}
+use Rattle.std.proofs.Common.{false, cond, not, ◌==◌, ltb, List, [], ◌∷◌, map, length, ne_eqb, ◌&&◌, All, Some, None}
+use Rattle.std.proofs.Common.{Result, Ok, Err, filter, lt-ltb, le-ltb, ltb-true, ltb-false, eqb-true, eq-eqb}
 use Rattle.std.specs.Result.{result_and, result_map_both}
-use Rattle.std.proofs.lemmas.Bool.{lt-ltb, le-ltb, ltb-true, ltb-false, eqb-true, eq-eqb}
 use Rattle.std.proofs.lemmas.Bool.Decides.{eqb_tells}
 use Rattle.css_model.specs.World.{Moment, OwnClock, RunsWithin}
 use Rattle.css_moments.specs.Drifts as drifts
@@ -14,8 +12,8 @@ use Rattle.css_schedule.specs.declared.header.Header.{Header}
 use Rattle.css_meaning.specs.Happened.{Numbered}
 use Rattle.css_meaning.specs.Worlds.{world_of, sleeps_of, moment}
 use Rattle.css_meaning.specs.Clocks.{Seen, shown_at, told_with, told_by, broken_by, clock_verdict}
-use Rattle.css_meaning.specs.Verdicts.{tv_seen, own_seen, seen_of_tv, seen_of, local_of, tested}
-use Rattle.css_meaning.specs.Verdicts.{own_shown_tested, shown_tested, reading_tested, carried_out, line_meant}
+use Rattle.css_meaning.specs.Verdicts.{tv_seen, own_seen, seen_of_tv, seen_of, local_of, tested, own_shown_tested}
+use Rattle.css_meaning.specs.Verdicts.{shown_tested, reading_tested, carried_out, line_meant}
 use Rattle.css_meaning.specs.declared.fault.WorldFault.{WorldFault}
 
 -- ---- lists
@@ -384,11 +382,9 @@ tv_at : (P : ℕ → ℕ → Type 0) (lines : List Numbered) (i : ℕ)
 tv_at P [] i each within = absurd (omega (arith, within))
 tv_at P (now ∷ older) i each within =
     place i (length older)
-    (λ below. subst (λ (m : Moment). P m.time m.wall) (sym (world-older now older i below))
-    (tv_at P older i (all-tail (λ (s : Shown). P s.time s.value) (shown_at (tv_seen now))
-    (drifts.all_shown (told_by (seen_of_tv older))) each) below))
-    (λ above. subst (λ (m : Moment). P m.time m.wall) (sym (world-now now older i above))
-    (all-head (λ (s : Shown). P s.time s.value) (shown_at (tv_seen now))
+    (λ below. rw (world-older now older i below) (tv_at P older i (all-tail (λ (s : Shown). P s.time s.value)
+    (shown_at (tv_seen now)) (drifts.all_shown (told_by (seen_of_tv older))) each) below))
+    (λ above. rw (world-now now older i above) (all-head (λ (s : Shown). P s.time s.value) (shown_at (tv_seen now))
     (drifts.all_shown (told_by (seen_of_tv older))) each))
 
 -- between two moments true time doesn't fall, and the wall clock keeps its error
@@ -407,8 +403,7 @@ tv_two error (now ∷ older) i j pairs le =
     (λ below. both (sym (world-older now older i below)) (sym (world-now now older j above)) (
       tv_at (λ t v. t ≤ now.line.t) older i pairs.0 below,
       tv_at (λ t v. RunsWithin error t v now.line.t now.line.w) older i
-          (subst (λ (xs : List Shown). All (λ (s : Shown). RunsWithin error s.time s.value now.line.t now.line.w) xs)
-          (tv_lately older) pairs.1) below,
+          (rw (tv_lately older) at pairs.1) below,
     ))
     (λ here. both (sym (world-now now older i here)) (sym (world-now now older j above))
     (omega arith, keeps-itself error now.line.t now.line.w)))
@@ -417,5 +412,4 @@ tv_two error (now ∷ older) i j pairs le =
     both : {m m' n n' : Moment} → m ≡ m' → n ≡ n' → (m.time ≤ n.time) × RunsWithin error m.time m.wall n.time n.wall
         → (m'.time ≤ n'.time) × RunsWithin error m'.time m'.wall n'.time n'.wall
     both {m} {m'} {n} {n'} p q is =
-        subst (λ (x : Moment). (x.time ≤ n'.time) × RunsWithin error x.time x.wall n'.time n'.wall) p
-        (subst (λ (y : Moment). (m.time ≤ y.time) × RunsWithin error m.time m.wall y.time y.wall) q is)
+        rw p at (rw q at is)

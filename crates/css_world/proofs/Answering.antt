@@ -1,7 +1,6 @@
 -- An answer is given, and a datagram lands: both ends stand for the line too.
-use Rattle.std.proofs.Common.{◌≡◌, ◌≢◌, ℕ, ◌-◌, append_assoc, ◌<◌, ◌≤◌, arith}
-use Rattle.std.proofs.Common.{Bool, true, false, not}
-use Rattle.std.proofs.Common.{List, [], ◌∷◌, ◌++◌, length, refl, ap, sym, subst, ◌∙◌, ◌⊎◌, inl, inr, eq-eqb, ne_eqb}
+use Rattle.std.proofs.Common.{◌≡◌, ◌≢◌, ℕ, ◌-◌, append_assoc, ◌<◌, ◌≤◌, arith, true, false, not, List, [], ◌∷◌, ◌++◌}
+use Rattle.std.proofs.Common.{length, refl, ap, sym, ◌∙◌, ◌⊎◌, inl, inr, eq-eqb, ne_eqb}
 use Rattle.std.specs.Prelude.{◌&&◌, map, unwrap_or, slice_set, Option, Some, None, is_some, option_to_list}
 use Rattle.std.specs.Option.{option_map, option_flatten}
 use Rattle.css_model.specs.declared.Message.{Message}
@@ -10,25 +9,20 @@ use Rattle.css_model.specs.Wire.{encoded}
 use Rattle.css_model.specs.History.{Clock, Took}
 use Rattle.css_companion.specs.Standing as companions
 use Rattle.css_companion.specs.Standing.{Companion}
-use Rattle.css_tv.specs.Stages.{Television as Tv}
-use Rattle.css_tv.specs.Standing as tvs
 use Rattle.css_server.specs.Tickets.{Server, Ticket, response_to, follow_up_for}
-use Rattle.css_server.specs.Exchanges as servers
 use Rattle.css_server.specs.declared.server.Answered.{Answered}
 use Rattle.css_schedule.specs.declared.header.Header.{Header}
 use Rattle.css_schedule.specs.declared.line.Verb.TheVariants.{Give, Land}
-use Rattle.css_meaning.specs.Happened.{Numbered, tickets, taken_for, datagrams, made_for}
-use Rattle.css_meaning.specs.Happened.{server_of, answers_to, is_given, peer, bytes_of, events_of, history_of}
-use Rattle.css_meaning.specs.Numbering.{numbered}
-use Rattle.css_meaning.specs.Numbering.{stored, spent}
+use Rattle.css_meaning.specs.Happened.{Numbered, tickets, taken_for, datagrams, made_for, server_of, answers_to}
+use Rattle.css_meaning.specs.Happened.{is_given, peer, bytes_of, events_of, history_of}
+use Rattle.css_meaning.specs.Numbering.{numbered, stored, spent}
 use Rattle.css_meaning.specs.Verdicts.{is_for}
-use Rattle.css_meaning.proofs.Made.{made_count}
+use Rattle.css_meaning.proofs.Made.{made_count, mapped_some, numbered-le}
 use Rattle.css_world.specs.declared.television.Television.{Television}
-use Rattle.css_world.specs.Standing.{Kept, AreStored, owner}
-use Rattle.css_world.specs.Standing.{open_ticket, EndsStand, IsAnswerTo, Answers}
+use Rattle.css_world.specs.Standing.{Kept, AreStored, owner, open_ticket, EndsStand, IsAnswerTo, Answers}
 use Rattle.css_world.specs.Lanes.{LaneStands}
 use Rattle.css_world.specs.declared.lane.Lane.{Lane}
-use Rattle.css_world.proofs.Storing.{mapped_some, numbered_within, pushed, spent_stored}
+use Rattle.css_world.proofs.Storing.{pushed, spent_stored}
 use Rattle.css_world.proofs.Carrying.{own_line, all_lanes, one_lane}
 use Rattle.css_world.proofs.Numbers.{stored_none, mapped_none}
 
@@ -78,9 +72,8 @@ answer_pushed : {A B : Type 0} (see : A → B) (items : List B) (older : List A)
     → AreStored (λ number. see) (items ++ see first ∷ option_to_list (option_map see more))
     ((option_to_list more ++ first ∷ []) ++ older)
 answer_pushed see items older first None are = pushed (λ number. see) items older first (see first) are refl
-answer_pushed {A} {B} see items older first (Some second) are =
-    subst (λ (kept : List B). AreStored (λ number. see) kept (second ∷ first ∷ older))
-    (append_assoc items (see first ∷ []) (see second ∷ []))
+answer_pushed see items older first (Some second) are =
+    rw (append_assoc items (see first ∷ []) (see second ∷ [])) at
     (pushed (λ number. see) (items ++ see first ∷ []) (first ∷ older) second (see second)
     (pushed (λ number. see) items older first (see first) are refl) refl)
 
@@ -88,46 +81,27 @@ answer_pushed {A} {B} see items older first (Some second) are =
 pub open_is : (lines : List Numbered) (take : ℕ) (o : Option Ticket) (ticket : Ticket)
     → option_flatten (option_map (open_ticket lines take) o) ≡ Some ticket
     → (o ≡ Some ticket) × (is_given take lines ≡ false)
-open_is lines take None ticket e = absurd (cc)
-open_is lines take (Some t) ticket e = by (is_given take lines) refl
-  where
-    by : (b : Bool) → is_given take lines ≡ b
-        → (◌≡◌ {A = Option Ticket} (Some t) (Some ticket)) × (is_given take lines ≡ false)
-    by true is = absurd (let no : ◌≡◌ {A = Option Ticket} None (Some ticket) = rw is at e in cc)
-    by false is = (rw is at e, is)
+open_is lines take o ticket e = grind (arith, e)
 
 -- what an answered ticket was
 pub answered_is : (server : Server) (reading : ℕ) (o : Option Ticket) (result : Option Answered) (answered : Answered)
     → Answers server reading o result → result ≡ Some answered
     → (ticket : Ticket) × (o ≡ Some ticket) × IsAnswerTo server ticket reading answered
-answered_is server reading None None answered is e = absurd (cc)
-answered_is server reading None (Some a) answered is e = absurd is
-answered_is server reading (Some ticket) None answered is e = absurd (cc)
-answered_is server reading (Some ticket) (Some a) answered is e =
-    let same : a ≡ answered = cc in
-    (ticket, refl, subst (λ (x : Answered). IsAnswerTo server ticket reading x) same is)
+answered_is server reading o result answered is e = grind (arith, is, e)
 
 -- where nothing is answered, no ticket was taken out
 pub none_answered : (server : Server) (reading : ℕ) (o : Option Ticket) (result : Option Answered)
     → Answers server reading o result → result ≡ None → o ≡ None
-none_answered server reading None result answers e = refl
-none_answered server reading (Some ticket) None answers e = absurd answers
-none_answered server reading (Some ticket) (Some answered) answers e = absurd (cc)
+none_answered server reading o result answers e = grind (arith, answers, e)
 
 -- a take that has no ticket any more can't be answered
 pub not_open : (lines : List Numbered) (take : ℕ) (o : Option Ticket)
     → option_flatten (option_map (open_ticket lines take) o) ≡ None → (is_some o && not (is_given take lines)) ≡ false
-not_open lines take None e = refl
-not_open lines take (Some ticket) e = by (is_given take lines) refl
-  where
-    by : (b : Bool) → is_given take lines ≡ b → not (is_given take lines) ≡ false
-    by true is = rw is refl
-    by false is = absurd (let no : ◌≡◌ {A = Option Ticket} (Some ticket) None = rw is at e in cc)
+not_open lines take o e = grind (arith, e)
 
 -- a companion is stored as itself
 pub owner_stored : (o : Option ℕ) (number who : ℕ) → option_map (owner number) o ≡ Some who → o ≡ Some who
-owner_stored None number who is = absurd (cc)
-owner_stored (Some x) number who is = is
+owner_stored o number who is = grind (arith, is)
 
 -- the datagrams of an answer are stored
 answer_made : (server : Server) (ticket : Ticket) (reading : ℕ) (answered : Answered) (items : List (List ℕ))
@@ -137,11 +111,7 @@ answer_made : (server : Server) (ticket : Ticket) (reading : ℕ) (answered : An
 answer_made server ticket reading answered items older is are =
     let response : Message = response_to server ticket reading in
     let follow_up : Option Message = follow_up_for server ticket reading in
-    subst (λ (r : List ℕ). AreDatagrams (items ++ r ∷ option_to_list answered.follow_up)
-    (answers_to server reading (Some ticket) ++ older)) (sym is.response)
-    (subst (λ (f : Option (List ℕ)). AreDatagrams (items ++ encoded response ∷ option_to_list f)
-    (answers_to server reading (Some ticket) ++ older)) (sym is.follow_up)
-    (answer_pushed encoded items older response follow_up are))
+    rw is.response (rw is.follow_up (answer_pushed encoded items older response follow_up are))
 
 -- and the companion that they are for, once for each of them
 answer_owned : (server : Server) (ticket : Ticket) (reading asker : ℕ) (answered : Answered) (items older : List ℕ)
@@ -154,12 +124,8 @@ answer_owned server ticket reading asker answered items older is are =
     by : (f : Option Message) → answered.follow_up ≡ option_map encoded f
         → AreStored owner (items ++ asker ∷ option_to_list (option_map (λ bytes. asker) answered.follow_up))
         (map (λ (m : Message). asker) (option_to_list f ++ response_to server ticket reading ∷ []) ++ older)
-    by None none = subst (λ (o : Option (List ℕ)). AreStored owner
-        (items ++ asker ∷ option_to_list (option_map (λ bytes. asker) o)) (asker ∷ older)) (sym none)
-        (answer_pushed (λ who. who) items older asker None are)
-    by (Some message) some = subst (λ (o : Option (List ℕ)). AreStored owner
-        (items ++ asker ∷ option_to_list (option_map (λ bytes. asker) o)) (asker ∷ asker ∷ older)) (sym some)
-        (answer_pushed (λ who. who) items older asker (Some asker) are)
+    by None none = rw none (answer_pushed (λ who. who) items older asker None are)
+    by (Some message) some = rw some (answer_pushed (λ who. who) items older asker (Some asker) are)
 
 -- so does `give`
 pub given : (old : Kept) (lines : List Numbered) (number t w who l take reading asker : ℕ) (ticket : Ticket)
@@ -198,35 +164,29 @@ given old lines number t w who l take reading asker ticket answered tv made owne
     let rest : (other : ℕ) (item : Ticket) → take ≢ other
     → open_ticket (now ∷ lines) other item ≡ open_ticket lines other item =
     λ other item differs. rw (ne_eqb take other differs) refl in
-    let within : take ≤ length before = numbered_within take before ticket was_taken in
+    let within : take ≤ length before = numbered-le take before ticket was_taken in
     let ahead : (n : ℕ) → length before < n → is_given n (now ∷ lines) ≡ false = λ n above.
     let differs : take ≢ n = omega arith in rw (ne_eqb take n differs) (ends.none_ahead n above) in
     let are : AreDatagrams made
     (answers_to (server_of old.header) reading (Some ticket) ++ datagrams old.header lines) =
-    subst (λ (kept : List (List ℕ)). AreDatagrams kept (answers_to (server_of old.header) reading (Some ticket)
-    ++ datagrams old.header lines)) (sym stored_so)
-    (answer_made (server_of old.header) ticket reading answered old.datagrams (datagrams old.header lines) is
-    ends.datagrams) in
+    rw stored_so (answer_made (server_of old.header) ticket reading answered old.datagrams (datagrams old.header lines)
+    is ends.datagrams) in
     let owned = answer_owned (server_of old.header) ticket reading asker answered old.made_for
     (made_for old.header lines) is ends.made_for in (
       can,
       record {
         lanes = all_lanes old.header lines number t w who l (Give take reading) old.lanes (λ n. refl) ends.lanes;
-        stage = subst (λ (tv : Tv). tvs.StandsFor tv.stage (events_of old.header lines)) (sym same_tv) ends.stage;
-        server = subst (λ (tv : Tv). servers.StandsFor tv.server before) (sym same_tv) ends.server;
+        stage = rw same_tv ends.stage;
+        server = rw same_tv ends.server;
         in_range = ends.in_range;
         none_ahead = ahead;
         requests = ends.requests;
         askers = ends.askers;
-        takes = subst (λ (kept : List (Option Ticket)). AreStored (open_ticket (now ∷ lines)) kept before) (sym put)
-            (spent_stored (open_ticket lines)
-            (open_ticket (now ∷ lines)) old.tv.takes.items before take gone rest ends.takes);
+        takes = rw put (spent_stored (open_ticket lines) (open_ticket (now ∷ lines)) old.tv.takes.items before take gone
+            rest ends.takes);
         taken_for = ends.taken_for;
-        datagrams = subst (λ (ms : List Message). AreDatagrams made ms) (sym same_made) are;
-        made_for = subst (λ (xs : List ℕ). AreStored owner owners xs) (sym same_owners)
-            (subst (λ (kept : List ℕ). AreStored owner kept (map (λ (m : Message). asker)
-            (answers_to (server_of old.header) reading (Some ticket)) ++ made_for old.header lines)) (sym put_too)
-            owned);
+        datagrams = rw same_made are;
+        made_for = rw same_owners (rw put_too owned);
       },
     )
 
@@ -251,8 +211,7 @@ landed old lines number t w who l datagram reading bytes lane companion ends fir
     (Clock why.Land reading ∷ Took peer (bytes_of (numbered datagram made)) ∷ own)
     (record lane { companion = companion }) =
     record {
-      companion = subst (λ (b : List ℕ). companions.StandsFor companion (Clock why.Land reading ∷ Took peer b ∷ own))
-          (sym same) stands;
+      companion = rw same stands;
       cii = was.cii;
       ts = was.ts;
     } in (

@@ -1,8 +1,6 @@
 -- What happens at a session is carried out: both ends stand for the line too.
-use Rattle.std.proofs.Common.{◌≡◌, ◌≤◌, ◌-◌, ◌==◌, ℕ, true, false, List, ◌∷◌, length}
-use Rattle.std.proofs.Common.{◌++◌, refl, ap, sym, subst, ◌∙◌, inl}
-use Rattle.std.specs.Prelude.{slice_set, Option, Some, None, Ok}
-use Rattle.std.specs.Option.{option_map, option_to_list}
+use Rattle.std.proofs.Common.{◌≡◌, ◌≤◌, ◌-◌, ◌==◌, ℕ, true, false, List, ◌∷◌, length, arith, ◌++◌, refl, ap, sym}
+use Rattle.std.proofs.Common.{◌∙◌, inl, option_map, option_to_list, slice_set, Option, Some, None, Ok}
 use Rattle.css_model.specs.declared.Kind.TheVariants as session
 use Rattle.css_model.specs.History.{History, Dialled, Heard, Wrote, Closed}
 use Rattle.css_num.specs.declared.protocol.Kind.{Kind}
@@ -14,7 +12,6 @@ use Rattle.css_tsmsg.specs.Setups.{setup_text}
 use Rattle.css_tsmsg.specs.declared.bound.Bound.{Bound}
 use Rattle.css_tsmsg.specs.declared.setup.Setup.{Setup}
 use Rattle.css_tv.specs.Stages.{Television as Tv}
-use Rattle.css_tv.specs.Standing as tvs
 use Rattle.css_tv.specs.Standing.{calls_of}
 use Rattle.css_tv.specs.declared.event.TvEvent.{TvEvent}
 use Rattle.css_tv.specs.declared.event.TvEvent.TheVariants as event
@@ -25,32 +22,30 @@ use Rattle.css_companion.specs.Meanings.{kind_of, texts_of}
 use Rattle.css_companion.specs.Steps.{window, owed, none_owed, IsEvent, IsEntryOf}
 use Rattle.css_companion.specs.declared.event.CompanionEvent.TheVariants as happening
 use Rattle.css_schedule.specs.declared.line.Verb.TheVariants.{Opening, Bring, Up, Present, Close}
-use Rattle.css_meaning.specs.Sessions.{addresses, peer_of, setup_of, is_open, was_opened, heard_from}
-use Rattle.css_meaning.specs.Sessions.{written_to, received_from, told_to, next_down}
-use Rattle.css_meaning.specs.Happened.{Numbered, dialled, hearing, events_of, history_of}
+use Rattle.css_meaning.specs.Sessions.{addresses, peer_of, setup_of, is_open, was_opened, heard_from, written_to}
+use Rattle.css_meaning.specs.Sessions.{received_from, told_to, next_down}
+use Rattle.css_meaning.specs.Happened.{Numbered, dialled, events_of, history_of}
 use Rattle.css_meaning.specs.Numbering.{stored}
 use Rattle.css_meaning.specs.Verdicts.{IsDeclared, played}
 use Rattle.css_meaning.specs.Accepted.{AreAccepted}
 use Rattle.css_meaning.proofs.Peers.{cii_of, ts_of, cii-ts, ts-cii, others-peer}
-use Rattle.css_meaning.proofs.Entries.{dialled-open, dialled-was, dialled-open_apart}
-use Rattle.css_meaning.proofs.Entries.{dialled-was_apart, closed-open, closed-open_apart, heard-apart, wrote-one}
-use Rattle.css_meaning.proofs.Entries.{heard-one as heard-now, wrote-apart, received-one, received-apart}
+use Rattle.css_meaning.proofs.Entries.{dialled-open, dialled-was, dialled-open_apart, dialled-was_apart, closed-open}
+use Rattle.css_meaning.proofs.Entries.{closed-open_apart, heard-apart, wrote-one, heard-one as heard-now, wrote-apart}
+use Rattle.css_meaning.proofs.Entries.{received-one, received-apart}
 use Rattle.css_meaning.proofs.Staged.{never_opened, no_talk}
 use Rattle.css_meaning.proofs.InOrder.{text_is_taken}
 use Rattle.css_meaning.proofs.Dialled.{dialled_as, open_kind}
 use Rattle.css_world.specs.declared.lane.Lane.{Lane}
 use Rattle.css_world.specs.declared.session.Phase.TheVariants as phases
-use Rattle.css_world.specs.Flights.{Session, opened, closed, first_in, rest_in}
-use Rattle.css_world.specs.Flights.{with_written, SessionCarries, SessionStands, HasNews}
-use Rattle.css_world.specs.Lanes.{LaneStands, KeepsAllButTexts, IsPlayed, KeepsAllBut, session_at, other}
-use Rattle.css_world.specs.Lanes.{next_at, taken_at, heard_as, closed_as, Greets}
+use Rattle.css_world.specs.Flights.{Session, opened, closed, first_in, rest_in, with_written, SessionCarries}
+use Rattle.css_world.specs.Flights.{SessionStands, HasNews}
+use Rattle.css_world.specs.Lanes.{LaneStands, KeepsAllButTexts, IsPlayed, KeepsAllBut, session_at, other, next_at}
+use Rattle.css_world.specs.Lanes.{taken_at, heard_as, closed_as, Greets}
 use Rattle.css_world.specs.Standing.{Kept as Both, EndsStand}
 use Rattle.css_world.proofs.Carrying.{own_line, one_lane}
-use Rattle.css_world.proofs.Flights.{is-live}
-use Rattle.css_world.proofs.Flights.{heard-one, raised-one, written-one}
+use Rattle.css_world.proofs.Flights.{is-live, heard-one, raised-one, written-one}
 use Rattle.css_world.proofs.Verbs.{quiet, session-played, aside, dialled-aside, wrote-aside, WhenPlayed, WhenAttended}
-use Rattle.css_world.proofs.Verbs.{WhenGreeted}
-use Rattle.css_world.proofs.Verbs.{never-open, opens, can-close, closes, can-bring, can-raise, session_as}
+use Rattle.css_world.proofs.Verbs.{WhenGreeted, never-open, opens, can-close, closes, can-bring, can-raise, session_as}
 use Rattle.css_world.proofs.AtTelevision.{event_lanes, attended_lanes}
 
 -- ---- one session of a lane
@@ -94,12 +89,10 @@ closed_entry kind.Ts peer own is = (peer, inl refl, is)
 
 -- none of both has bounds
 pub heard_event : (k : Kind) (text : List ℕ) → IsEvent (heard_as k text)
-heard_event kind.Cii text = tt
-heard_event kind.Ts text = tt
+heard_event k text = grind arith
 
 pub closed_event : (k : Kind) → IsEvent (closed_as k)
-closed_event kind.Cii = tt
-closed_event kind.Ts = tt
+closed_event k = grind arith
 
 -- nothing is owed after a session closes
 pub owes-nothing : (k : Kind) (companion : Companion) → owed companion (closed_as k) ≡ Ok None
@@ -112,9 +105,7 @@ module _ (old : Both) (lines : List Numbered) (number t w who l : ℕ) where
   stood_on : (k : Kind) (lane between mid : Lane)
       → LaneStands who (events_of old.header lines) (history_of who old.header lines) lane → KeepsAllBut k lane between
       → mid.companion ≡ between.companion → companions.StandsFor mid.companion (history_of who old.header lines)
-  stood_on k lane between mid before rest same =
-      subst (λ (c : Companion). companions.StandsFor c (history_of who old.header lines))
-      (sym (same ∙ rest.companion)) before.companion
+  stood_on k lane between mid before rest same = rw (same ∙ rest.companion) before.companion
 
   -- and the other session
   other_stood : (k : Kind) (lane between : Lane)
@@ -124,8 +115,7 @@ module _ (old : Both) (lines : List Numbered) (number t w who l : ℕ) where
   other_stood k lane between before rest =
       let events = events_of old.header lines in
       let own = history_of who old.header lines in
-      subst (λ (s : Session). SessionStands (peer_of who (other k)) events own s) (sym rest.other)
-      (at_kind (other k) who events own lane before)
+      rw rest.other (at_kind (other k) who events own lane before)
 
   -- ---- openings
   -- the television has no session of a peer that opens one
@@ -165,11 +155,9 @@ module _ (old : Both) (lines : List Numbered) (number t w who l : ℕ) where
       record {
         companion = aside final.companion (Dialled session.Cii peer) own (dialled-aside peer own)
             (greets own own stood refl);
-        cii = subst (λ (s : Session). SessionStands peer events history s) (sym same_cii)
-            (session_as mid.cii peer events history _ _ _ _ _ (dialled-open peer session.Cii own)
+        cii = rw same_cii (session_as mid.cii peer events history _ _ _ _ _ (dialled-open peer session.Cii own)
             (dialled-was peer session.Cii own) refl refl refl here);
-        ts = subst (λ (s : Session). SessionStands (ts_of who) events history s) (sym after)
-            (session_as mid.ts (ts_of who) events history _ _ _ _ _
+        ts = rw after (session_as mid.ts (ts_of who) events history _ _ _ _ _
             (dialled-open_apart (ts_of who) peer apart session.Cii own)
             (dialled-was_apart (ts_of who) peer apart session.Cii own) refl refl refl there);
       }
@@ -186,8 +174,7 @@ module _ (old : Both) (lines : List Numbered) (number t w who l : ℕ) where
       record {
         companion = aside final.companion (Wrote peer setup) begun (wrote-aside peer setup begun)
             (greets own begun stood (peer, refl));
-        cii = subst (λ (s : Session). SessionStands (cii_of who) events history s) (sym same_cii)
-            (session_as mid.cii (cii_of who) events history _ _ _ _ _
+        cii = rw same_cii (session_as mid.cii (cii_of who) events history _ _ _ _ _
             (dialled-open_apart (cii_of who) peer apart session.Ts own)
             (dialled-was_apart (cii_of who) peer apart session.Ts own) refl
             (wrote-apart (cii_of who) peer apart setup begun) refl there);
@@ -195,9 +182,7 @@ module _ (old : Both) (lines : List Numbered) (number t w who l : ℕ) where
             (setup ∷ written_to peer own) (received_from peer (events_of old.header lines))
             (dialled-open peer session.Ts own) (dialled-was peer session.Ts own) refl
             (wrote-one peer setup begun) refl
-            (subst (λ (s : Session). SessionCarries s true true (told_to peer events) (heard_from peer own)
-            (setup ∷ written_to peer own) (received_from peer (events_of old.header lines))) (sym written)
-            (written-one setup here));
+            (rw written (written-one setup here));
       }
 
   -- a session opens
@@ -249,25 +234,20 @@ module _ (old : Both) (lines : List Numbered) (number t w who l : ℕ) where
       let mine = at_kind k who events own lane before in
       let next = can-bring old.header lines who k (session_at k lane) text mine first_text in
       let live : SessionCarries (session_at k lane) true (was_opened peer own) (told_to peer events)
-      (heard_from peer own) (written_to peer own) (received_from peer events) =
-      subst (λ b. SessionCarries (session_at k lane) b (was_opened peer own) (told_to peer events) (heard_from peer own)
-      (written_to peer own) (received_from peer events)) next.0 mine in
+      (heard_from peer own) (written_to peer own) (received_from peer events) = rw next.0 at mine in
       let stands : LaneStands who events history final =
       both_at k who events history final
-      (attends own (Heard peer text) (subst (λ (c : Companion). companions.StandsFor c own) (sym rest.companion)
-      before.companion) (heard_entry k peer text own (open_kind old.header lines who k first accepted next.0)))
+      (attends own (Heard peer text) (rw rest.companion before.companion)
+      (heard_entry k peer text own (open_kind old.header lines who k first accepted next.0)))
       (session_as (session_at k final) peer events history true (was_opened peer own) (text ∷ heard_from peer own)
       (written_to peer own) (received_from peer events) next.0 refl (heard-now peer text own) refl refl
-      (subst (λ (s : Session). SessionCarries s true (was_opened peer own) (told_to peer events)
-      (text ∷ heard_from peer own) (written_to peer own) (received_from peer events))
-      (sym (same_at k between final same_cii same_ts ∙ after)) (heard-one text live first_text)))
+      (rw (same_at k between final same_cii same_ts ∙ after) (heard-one text live first_text)))
       (session_as (session_at (other k) final) apart events history _ _ _ _ _ refl refl
       (heard-apart apart peer (two_peers who k first) text own) refl refl
-      (subst (λ (s : Session). SessionStands apart events own s)
-      (sym (same_at (other k) between final same_cii same_ts)) (other_stood k lane between before rest))) in
+      (rw (same_at (other k) between final same_cii same_ts) (other_stood k lane between before rest))) in
       quiet old lines number t w who l (Bring k) old.tv.tv (slice_set old.lanes (who - 1) final) tt ends refl ends.stage
       (one_lane old.header lines number t w who l (Bring k) old.lanes final refl first within ends.lanes
-      (subst (λ (o : Option (List ℕ)). LaneStands who events (hearing peer o own) final) (sym next.1) stands))
+      (rw next.1 stands))
 
   -- a text of the television is never refused, and nothing is owed after it
   pub owes-none : (k : Kind) (lane between : Lane) (text : List ℕ) → 1 ≤ who → IsDeclared old.header
@@ -306,20 +286,15 @@ module _ (old : Both) (lines : List Numbered) (number t w who l : ℕ) where
       ap (λ (o : Option (List ℕ)). option_to_list (option_map (event.Heard peer) o) ++ events) next.1 in
       let done = plays events ends.stage tt in
       let live : SessionCarries lane.ts true (was_opened peer own) (told_to peer events) (heard_from peer own)
-      (written_to peer own) (received_from peer events) =
-      subst (λ b. SessionCarries lane.ts b (was_opened peer own) (told_to peer events) (heard_from peer own)
-      (written_to peer own) (received_from peer events)) next.0 before.ts in
+      (written_to peer own) (received_from peer events) = rw next.0 at before.ts in
       let raised : SessionCarries ts true (was_opened peer own) (told_to peer events) (heard_from peer own)
-      (written_to peer own) (text ∷ received_from peer events) =
-      subst (λ (s : Session). SessionCarries s true (was_opened peer own) (told_to peer events) (heard_from peer own)
-      (written_to peer own) (text ∷ received_from peer events)) (sym after)
-      (raised-one text live first_text) in
+      (written_to peer own) (text ∷ received_from peer events) = rw after (raised-one text live first_text) in
       quiet old lines number t w who l Up tv lanes tt ends same
-      (subst (λ (es : List TvEvent). tvs.StandsFor tv.stage es) (sym is) done.stage)
+      (rw is done.stage)
       (event_lanes old lines number t w who l Up e tv (record lane { ts = ts }) lanes ends first within is
       (λ n k above differs. others-peer n who kind.Ts k above first (λ is. differs (sym is))) done kept
       (λ final played companion. record {
-        companion = subst (λ (c : Companion). companions.StandsFor c own) (sym companion) before.companion;
+        companion = rw companion before.companion;
         cii = session_as final.cii (cii_of who) (e ∷ events) own _ _ _ _ _ refl refl refl refl
             (received-apart (cii_of who) peer other text events) (session-played played.cii before.cii);
         ts = session_as final.ts peer (e ∷ events) own true (was_opened peer own) (heard_from peer own)
@@ -343,20 +318,15 @@ module _ (old : Both) (lines : List Numbered) (number t w who l : ℕ) where
       let live : is_open peer own ≡ true =
       is-live (is_open peer own) (was_opened peer own) (sym before.ts.phase ∙ is_live) in
       let carries : SessionCarries lane.ts true (was_opened peer own) (told_to peer events) (heard_from peer own)
-      (written_to peer own) (received_from peer events) =
-      subst (λ b. SessionCarries lane.ts b (was_opened peer own) (told_to peer events) (heard_from peer own)
-      (written_to peer own) (received_from peer events)) live before.ts in
+      (written_to peer own) (received_from peer events) = rw live at before.ts in
       let stands : LaneStands who events (Wrote peer text ∷ own) final = record {
-        companion = subst (λ (c : Companion). companions.StandsFor c (Wrote peer text ∷ own)) (sym same_companion)
-            (aside lane.companion (Wrote peer text) own (wrote-aside peer text own) before.companion);
-        cii = subst (λ (s : Session). SessionStands (cii_of who) events (Wrote peer text ∷ own) s) (sym same_cii)
-            (session_as lane.cii (cii_of who) events (Wrote peer text ∷ own) _ _ _ _ _ refl refl refl
+        companion = rw same_companion (aside lane.companion (Wrote peer text) own (wrote-aside peer text own)
+            before.companion);
+        cii = rw same_cii (session_as lane.cii (cii_of who) events (Wrote peer text ∷ own) _ _ _ _ _ refl refl refl
             (wrote-apart (cii_of who) peer (ts-cii who first) text own) refl before.cii);
         ts = session_as final.ts peer events (Wrote peer text ∷ own) true (was_opened peer own) (heard_from peer own)
             (text ∷ written_to peer own) (received_from peer events) live refl refl (wrote-one peer text own) refl
-            (subst (λ (s : Session). SessionCarries s true (was_opened peer own) (told_to peer events)
-            (heard_from peer own) (text ∷ written_to peer own) (received_from peer events)) (sym after)
-            (written-one text carries));
+            (rw after (written-one text carries));
       } in
       quiet old lines number t w who l (Present earliest latest) old.tv.tv (slice_set old.lanes (who - 1) final) tt ends
       refl ends.stage
@@ -394,12 +364,9 @@ module _ (old : Both) (lines : List Numbered) (number t w who l : ℕ) where
       both_at k who (e ∷ events) history final
       (attends own (Closed peer) (stood_on k lane between mid before rest companion)
       (closed_entry k peer own (open_kind old.header lines who k first accepted live)))
-      (subst (λ (s : Session). SessionStands peer (e ∷ events) history s) (sym (same_at k mid final same_cii same_ts))
-      (session_as (session_at k mid) peer (e ∷ events) history _ _ _ _ _ (closed-open peer own) refl refl refl refl
-      (session-played (played_at k who events e between mid now)
+      (rw (same_at k mid final same_cii same_ts) (session_as (session_at k mid) peer (e ∷ events) history _ _ _ _ _
+      (closed-open peer own) refl refl refl refl (session-played (played_at k who events e between mid now)
       (closes old.header lines who k (session_at k lane) (session_at k between) mine ok))))
-      (subst (λ (s : Session). SessionStands apart (e ∷ events) history s)
-      (sym (same_at (other k) mid final same_cii same_ts))
-      (session_as (session_at (other k) mid) apart (e ∷ events) history _ _ _ _ _
-      (closed-open_apart apart peer (two_peers who k first) own) refl refl refl refl
+      (rw (same_at (other k) mid final same_cii same_ts) (session_as (session_at (other k) mid) apart (e ∷ events)
+      history _ _ _ _ _ (closed-open_apart apart peer (two_peers who k first) own) refl refl refl refl
       (session-played (played_at (other k) who events e between mid now) (other_stood k lane between before rest))))))

@@ -1,6 +1,5 @@
 -- What happens at the television is carried out, or at the companion alone: both ends stand for the line too.
-use Rattle.std.proofs.Common.{◌≡◌, ◌≢◌, ◌≤◌, ◌-◌, ℕ, false, List, ◌∷◌, length}
-use Rattle.std.proofs.Common.{refl, ap, sym, subst, ◌∙◌}
+use Rattle.std.proofs.Common.{◌≡◌, ◌≢◌, ◌≤◌, ◌-◌, ℕ, false, List, ◌∷◌, length, refl, ap, sym, subst, ◌∙◌}
 use Rattle.std.specs.Prelude.{slice_set, Some}
 use Rattle.css_model.specs.declared.Why.TheVariants as why
 use Rattle.css_model.specs.History.{History, Clock, Slept}
@@ -12,9 +11,7 @@ use Rattle.css_tv.specs.declared.event.TvEvent.TheVariants as event
 use Rattle.css_companion.specs.Standing as companions
 use Rattle.css_companion.specs.Standing.{Companion}
 use Rattle.css_schedule.specs.declared.line.Verb.{Verb}
-use Rattle.css_schedule.specs.declared.line.Verb.TheVariants.{Wall, Print}
-use Rattle.css_schedule.specs.declared.line.Verb.TheVariants.{Programme, Timeline, Viewer}
-use Rattle.css_schedule.specs.declared.line.Verb.TheVariants.{Sleep}
+use Rattle.css_schedule.specs.declared.line.Verb.TheVariants.{Wall, Print, Programme, Timeline, Viewer, Sleep}
 use Rattle.css_meaning.specs.Sessions.{peer_of}
 use Rattle.css_meaning.specs.Happened.{Numbered, datagrams, done_by, events_of, history_of}
 use Rattle.css_meaning.specs.Numbering.{stored}
@@ -86,20 +83,17 @@ module _ (old : Kept) (lines : List Numbered) (number t w who l : ℕ) where
       → EndsStand (record old { tv = record old.tv { tv = tv }; lanes = lanes })
       (own_line number t w who l verb ∷ lines)
   happens (Programme content_id) e tv lanes is ends plays same kept =
-      let done =
-      subst (λ x. WhenPlayed x old.tv.tv tv old.lanes lanes) is plays (events_of old.header lines) ends.stage tt in
+      let done = rw is at plays (events_of old.header lines) ends.stage tt in
       quiet old lines number t w who l (Programme content_id) tv lanes tt ends same done.stage
       (all_lanes old.header lines number t w who l (Programme content_id) lanes (λ n. refl)
       (alone (event.Programme content_id) tv lanes (λ peer. refl) done kept ends))
   happens (Timeline programme selector rate base) e tv lanes is ends plays same kept =
-      let done =
-      subst (λ x. WhenPlayed x old.tv.tv tv old.lanes lanes) is plays (events_of old.header lines) ends.stage tt in
+      let done = rw is at plays (events_of old.header lines) ends.stage tt in
       quiet old lines number t w who l (Timeline programme selector rate base) tv lanes tt ends same done.stage
       (all_lanes old.header lines number t w who l (Timeline programme selector rate base) lanes (λ n. refl)
       (alone (event.AddTimeline programme selector rate base) tv lanes (λ peer. refl) done kept ends))
   happens (Viewer reading command) e tv lanes is ends plays same kept =
-      let done =
-      subst (λ x. WhenPlayed x old.tv.tv tv old.lanes lanes) is plays (events_of old.header lines) ends.stage tt in
+      let done = rw is at plays (events_of old.header lines) ends.stage tt in
       quiet old lines number t w who l (Viewer reading command) tv lanes tt ends same done.stage
       (all_lanes old.header lines number t w who l (Viewer reading command) lanes (λ n. refl)
       (alone (event.Viewer command reading) tv lanes (λ peer. refl) done kept ends))
@@ -117,8 +111,7 @@ module _ (old : Kept) (lines : List Numbered) (number t w who l : ℕ) where
       let events = events_of old.header lines in
       let own = history_of who old.header lines in
       own_lanes old.header lines number t w who l verb old.lanes
-      (λ n lane found differs. subst (λ (es : List TvEvent). LaneStands n es (history_of n old.header lines) lane)
-      (sym none) (ends.lanes n lane found))
+      (λ n lane found differs. rw none (ends.lanes n lane found))
       (λ lane found.
       let before = ends.lanes who lane found in
       let stands : LaneStands who events (Clock why.Turn reading ∷ own) lane = record {
@@ -126,9 +119,7 @@ module _ (old : Kept) (lines : List Numbered) (number t w who l : ℕ) where
         cii = before.cii;
         ts = before.ts;
       } in
-      subst (λ (es : List TvEvent). LaneStands who es (done_by old.header who (datagrams old.header lines) events verb
-      own) lane) (sym none)
-      (subst (λ (h : History). LaneStands who events h lane) (sym entry) stands))
+      rw none (rw entry stands))
 
   -- where the span is printed
   pub walls : (reading : ℕ) → EndsStand old lines → EndsStand old (own_line number t w who l (Wall reading) ∷ lines)
@@ -175,8 +166,7 @@ module _ (old : Kept) (lines : List Numbered) (number t w who l : ℕ) where
       let events = events_of old.header lines in
       let was = was_before n events e tv (slice_set old.lanes (who - 1) between) played lane all kept found in
       let there = sym (set_others old.lanes who n between first differs) ∙ was.found in
-      subst (λ (es : List TvEvent). LaneStands n es (history_of n old.header lines) lane) (sym is)
-      (other_played n events e (history_of n old.header lines) was.lane lane
+      rw is (other_played n events e (history_of n old.header lines) was.lane lane
       (λ k. apart n k (stored_within played n lane found).0 differs) (ends.lanes n was.lane there) was.done
       was.companion)
 
@@ -202,8 +192,7 @@ module _ (old : Kept) (lines : List Numbered) (number t w who l : ℕ) where
       let was = was_before who events e tv (slice_set old.lanes (who - 1) between) played lane all kept found in
       let same : was.lane ≡ between = stored_same (slice_set old.lanes (who - 1) between) who was.lane between was.found
       (set_there old.lanes who between first within) in
-      subst (λ (es : List TvEvent). LaneStands who es done lane) (sym is)
-      (own lane (subst (λ (x : Lane). IsPlayed who events e x lane) same was.done)
+      rw is (own lane (rw same at was.done)
       (was.companion ∙ ap (λ (x : Lane). x.companion) same)))
 
   -- and where it is
@@ -226,7 +215,7 @@ module _ (old : Kept) (lines : List Numbered) (number t w who l : ℕ) where
       let same : was.lane ≡ between = stored_same (slice_set old.lanes (who - 1) between) who was.lane between was.found
       (set_there old.lanes who between first within) in
       let stands : LaneStands who (e ∷ events) done final =
-      own (subst (λ (x : Lane). IsPlayed who events e x mid) same was.done)
+      own (rw same at was.done)
       (was.companion ∙ ap (λ (x : Lane). x.companion) same) in
       own_lanes old.header lines number t w who l verb (slice_set played (who - 1) final)
       (λ n lane at differs.
@@ -235,5 +224,4 @@ module _ (old : Kept) (lines : List Numbered) (number t w who l : ℕ) where
       (λ lane at.
       let last : final ≡ lane = stored_same (slice_set played (who - 1) final) who final lane
       (set_there played who final first (stored_within played who mid found).1) at in
-      subst (λ (es : List TvEvent). LaneStands who es done lane) (sym is)
-      (subst (λ (x : Lane). LaneStands who (e ∷ events) done x) last stands))
+      rw is (rw last at stands))

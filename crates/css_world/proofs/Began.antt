@@ -1,9 +1,6 @@
 -- Both ends before their first line, and their clocks.
-use Rattle.std.proofs.Common.{◌≡◌, ◌-◌, ℕ, zero, suc, arith, refl, ap, sym, subst, ◌∙◌, List, [], length}
-use Rattle.std.proofs.Common.{FitsSigned}
-use Rattle.std.specs.Prelude.{Option, Some, None, unwrap_or, slice_get}
-use Rattle.std.specs.Int.{w8}
-use Rattle.std.specs.Option.{option_map}
+use Rattle.std.proofs.Common.{◌≡◌, ◌-◌, ℕ, zero, suc, arith, refl, ap, sym, subst, ◌∙◌, List, [], length, FitsSigned}
+use Rattle.std.proofs.Common.{w8, option_map, Option, Some, None, unwrap_or, slice_get}
 use Rattle.css_model.specs.Wire.{encoded}
 use Rattle.css_model.specs.WallClock.{Local, IsLocal}
 use Rattle.css_server.specs.Exchanges as servers
@@ -23,8 +20,8 @@ use Rattle.css_world.specs.declared.watch.Watch.{Watch}
 use Rattle.css_world.specs.declared.television.Television.{Television}
 use Rattle.css_world.specs.Flights.{Session, SessionStands, unopened}
 use Rattle.css_world.specs.Lanes.{IsFresh, AreFresh, IsLaneOf, setup_by}
-use Rattle.css_world.specs.Standing.{Kept, EndsAre, EndsStand, IsReady, AreStored, AreNew, WatchStands}
-use Rattle.css_world.specs.Standing.{request_bytes, owner, open_ticket}
+use Rattle.css_world.specs.Standing.{Kept, EndsAre, EndsStand, IsReady, AreStored, AreNew, WatchStands, request_bytes}
+use Rattle.css_world.specs.Standing.{owner, open_ticket}
 use Rattle.css_world.proofs.Fresh.{Each}
 use Rattle.css_world.proofs.Numbers.{stored_within, stored_there}
 
@@ -144,8 +141,7 @@ begun_are world begun = record {
 -- a session that was never open stands for nothing
 never_open : (peer : ℕ) (session : Session) → session ≡ unopened → SessionStands peer [] [] session
 never_open peer session is =
-    subst (SessionStands peer [] []) (sym is)
-    (record { phase = refl; down = refl; up = refl; heard_of = omega arith; received_of = omega arith })
+    rw is (record { phase = refl; down = refl; up = refl; heard_of = omega arith; received_of = omega arith })
 
 -- nothing is stored
 none_at : {A B : Type 0} (see : ℕ → A → B) (number : ℕ)
@@ -154,8 +150,7 @@ none_at see zero = refl
 none_at see (suc place) = refl
 
 none_stored : {A B : Type 0} (see : ℕ → A → B) (items : List B) → items ≡ [] → AreStored see items []
-none_stored see items is =
-    subst (λ (xs : List _). AreStored see xs []) (sym is) (record { count = refl; each = none_at see })
+none_stored see items is = rw is (record { count = refl; each = none_at see })
 
 -- the ends did nothing yet
 begun_ends : (world : Kept) → HasBegun world → EndsStand world []

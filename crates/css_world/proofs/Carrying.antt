@@ -1,39 +1,33 @@
 -- What the ends do at a line: they stand for the lines with it.
-use Rattle.std.proofs.Common.{◌≡◌, ◌≢◌, ℕ, suc, ◌-◌, ◌==◌, cond, ◌<◌, ◌≤◌, ◌/◌, ◌%◌, ◌^◌, arith, rules}
-use Rattle.std.proofs.Common.{Bool, true, false}
-use Rattle.std.proofs.Common.{List, [], ◌∷◌, ◌++◌, length, refl, ap, sym, subst, ◌∙◌, inl, inr}
-use Rattle.std.specs.Prelude.{◌&&◌, slice_set, Option, Some, option_to_list, Ok}
-use Rattle.std.specs.Option.{option_map}
+use Rattle.std.proofs.Common.{◌≡◌, ◌≢◌, ℕ, suc, ◌-◌, ◌==◌, cond, ◌<◌, ◌≤◌, arith, Bool, true, false, List, [], ◌∷◌}
+use Rattle.std.proofs.Common.{◌++◌, length, refl, ap, sym, ◌∙◌, inl, inr, option_map, ◌&&◌, slice_set, Option}
+use Rattle.std.proofs.Common.{Some, option_to_list, Ok}
 use Rattle.std.specs.List.{AllByRecursion}
 use Rattle.std.proofs.lemmas.Bool.Decides.{eqb_tells}
 use Rattle.css_model.specs.declared.TheConstants.{LIMIT}
 use Rattle.css_model.specs.declared.Why.TheVariants as why
 use Rattle.css_model.specs.Wire.{encoded, decoded, request_at, stamp_of}
-use Rattle.css_wc.proofs.Codec.{decoded-encoded}
 use Rattle.css_model.specs.History.{History, Clock, Sent}
 use Rattle.css_companion.specs.Standing as companions
 use Rattle.css_companion.specs.Standing.{Companion}
-use Rattle.css_tv.specs.Stages.{Stage}
-use Rattle.css_tv.specs.Standing as tvs
 use Rattle.css_server.specs.Tickets.{Server, Ticket, ticket_for, is_greater}
 use Rattle.css_server.specs.Exchanges as servers
 use Rattle.css_server.specs.Exchanges.{greatest_reading}
 use Rattle.css_schedule.specs.declared.header.Header.{Header}
 use Rattle.css_schedule.specs.declared.line.Verb.{Verb}
 use Rattle.css_schedule.specs.declared.line.Verb.TheVariants.{Ask, Take}
-use Rattle.css_meaning.specs.Happened.{Numbered, requests, askers, tickets, ticket_at, taken_for, datagrams}
-use Rattle.css_meaning.specs.Happened.{is_given, peer, done_by, events_of, history_of}
-use Rattle.css_meaning.specs.Numbering.{numbered}
-use Rattle.css_meaning.specs.Numbering.{stored}
+use Rattle.css_meaning.specs.Happened.{Numbered, requests, askers, tickets, ticket_at, taken_for, datagrams, is_given}
+use Rattle.css_meaning.specs.Happened.{peer, done_by, events_of, history_of}
+use Rattle.css_meaning.specs.Numbering.{numbered, stored}
 use Rattle.css_meaning.proofs.Ends.{history_now, history_other}
+use Rattle.css_meaning.proofs.Made.{mapped_some}
+use Rattle.css_meaning.proofs.Lawful.{request_back}
 use Rattle.css_world.specs.declared.television.Television.{Television}
-use Rattle.css_world.specs.Standing.{Kept, AreStored, request_bytes, owner}
-use Rattle.css_world.specs.Standing.{open_ticket, EndsStand}
+use Rattle.css_world.specs.Standing.{Kept, AreStored, request_bytes, owner, open_ticket, EndsStand}
 use Rattle.css_world.specs.Lanes.{LaneStands, LanesStand}
-use Rattle.css_tv.specs.declared.event.TvEvent.{TvEvent}
 use Rattle.css_world.specs.declared.lane.Lane.{Lane}
 use Rattle.css_world.proofs.Numbers.{stored_same, set_there, set_others}
-use Rattle.css_world.proofs.Storing.{mapped_some, pushed}
+use Rattle.css_world.proofs.Storing.{pushed}
 
 -- a line of companion `who`
 abbrev pub own_line : (number t w who l : ℕ) → Verb → Numbered
@@ -47,12 +41,8 @@ pub at_line : (world : Kept) (lines : List Numbered) (now : Numbered) (who : ℕ
     → EndsStand world (now ∷ lines)
 at_line world lines now who verb own is ends =
     let said : EndsStand world (own_line now.number now.line.t now.line.w who now.line.l now.line.verb ∷ lines) =
-    subst (λ (v : Verb). EndsStand world (own_line now.number now.line.t now.line.w who now.line.l v ∷ lines))
-    (sym is) ends in
-    subst (λ (n : ℕ). EndsStand world (record {
-      number = now.number;
-      line = record { t = now.line.t; w = now.line.w; who = n; l = now.line.l; verb = now.line.verb };
-    } ∷ lines)) (sym own) said
+    rw is ends in
+    rw own said
 
 -- ---- lanes
 -- the histories of companions after lines
@@ -80,8 +70,7 @@ pub all_lanes : (header : Header) (lines : List Numbered) (number t w who l : �
     → LanesStand (events_of header (own_line number t w who l verb ∷ lines))
     (histories header (own_line number t w who l verb ∷ lines)) lanes
 all_lanes header lines number t w who l verb lanes still stand n lane found =
-    subst (λ (h : History). LaneStands n (events_of header (own_line number t w who l verb ∷ lines)) h lane)
-    (sym (unmoved header lines number t w who l verb still n)) (stand n lane found)
+    rw (unmoved header lines number t w who l verb still n) (stand n lane found)
 
 -- At a line of companion `who` the lane of each other one stands for its own history of before.
 pub own_lanes : (header : Header) (lines : List Numbered) (number t w who l : ℕ) (verb : Verb) (lanes : List Lane)
@@ -95,15 +84,11 @@ pub own_lanes : (header : Header) (lines : List Numbered) (number t w who l : �
 own_lanes header lines number t w who l verb lanes others own n lane found = elim (eqb_tells n who) [
   | inl same ↦
       let now = own_line number t w who l verb in
-      let here = own lane (subst (λ k. stored lanes k ≡ Some lane) same.1 found) in
-      subst (λ k. LaneStands k (events_of header (now ∷ lines)) (history_of k header (now ∷ lines)) lane) (sym same.1)
-      (subst (λ (h : History). LaneStands who (events_of header (now ∷ lines)) h lane)
-      (sym (history_now header now lines who refl)) here)
+      let here = own lane (rw same.1 at found) in
+      rw same.1 (rw (history_now header now lines who refl) here)
   | inr differs ↦
       let now = own_line number t w who l verb in
-      subst (λ (h : History). LaneStands n (events_of header (now ∷ lines)) h lane)
-      (sym (history_other header now lines n (λ same. differs.1 (sym same))))
-      (others n lane found differs.1)
+      rw (history_other header now lines n (λ same. differs.1 (sym same))) (others n lane found differs.1)
 ]
 
 -- where nothing happened at the television, one lane alone was touched
@@ -119,17 +104,11 @@ pub one_lane : (header : Header) (lines : List Numbered) (number t w who l : ℕ
 one_lane header lines number t w who l verb lanes lane none first within stand here =
     own_lanes header lines number t w who l verb (slice_set lanes (who - 1) lane)
     (λ n other found differs.
-    subst (λ (es : List TvEvent). LaneStands n es (history_of n header lines) other) (sym none)
-    (stand n other (sym (set_others lanes who n lane first differs) ∙ found)))
+    rw none (stand n other (sym (set_others lanes who n lane first differs) ∙ found)))
     (λ same found.
     let is : lane ≡ same =
     stored_same (slice_set lanes (who - 1) lane) who lane same (set_there lanes who lane first within) found in
-    subst (λ (es : List TvEvent). LaneStands who es
-    (done_by header who (datagrams header lines) (events_of header lines) verb (history_of who header lines)) same)
-    (sym none)
-    (subst (λ (x : Lane). LaneStands who (events_of header lines)
-    (done_by header who (datagrams header lines) (events_of header lines) verb (history_of who header lines)) x) is
-    here))
+    rw none (rw is at here))
 
 -- ---- a request
 pub asked : (old : Kept) (lines : List Numbered) (number t w who l reading : ℕ) (lane : Lane)
@@ -157,9 +136,8 @@ asked old lines number t w who l reading lane companion items owners ends first 
       server = ends.server;
       in_range = (range, ends.in_range);
       none_ahead = ends.none_ahead;
-      requests = subst (λ (kept : List (List ℕ)). AreStored request_bytes kept (reading ∷ requests lines))
-          (sym put) stored_after;
-      askers = subst (λ (kept : List ℕ). AreStored owner kept (who ∷ askers lines)) (sym put_too) owned_after;
+      requests = rw put stored_after;
+      askers = rw put_too owned_after;
       takes = ends.takes;
       taken_for = ends.taken_for;
       datagrams = ends.datagrams;
@@ -167,33 +145,12 @@ asked old lines number t w who l reading lane companion items owners ends first 
     }
 
 -- ---- a take
--- a request is read back from its bytes
-request_back : (asked : ℕ) → asked < LIMIT → decoded (encoded (request_at asked)) ≡ Ok (request_at asked)
-request_back asked range =
-    let seconds : asked / 1000000000 < 2 ^ 32 = omega arith in
-    let nanoseconds : asked % 1000000000 < 2 ^ 32 = omega arith in
-    decoded-encoded (request_at asked) (record {
-      message_type = omega arith;
-      precision = search rules;
-      error = omega arith;
-      originate = record { seconds = seconds; nanoseconds = nanoseconds };
-      receive = record { seconds = omega arith; nanoseconds = omega arith };
-      transmit = record { seconds = omega arith; nanoseconds = omega arith };
-    }) refl
-
 -- what holds of each holds of that of a number
 numbered_each : {A : Type 0} (P : A → Type 0) (number : ℕ) (items : List A) (item : A) → AllByRecursion P items
     → numbered number items ≡ Some item → P item
 numbered_each P number [] item all e = absurd (cc)
-numbered_each P number (x ∷ older) item all e = elim (eqb_tells number (suc (length older))) [
-  | inl same ↦
-      let first : Some x ≡ Some item = rw same.0 at e in
-      let is : x ≡ item = cc in
-      subst P is all.0
-  | inr other ↦
-      let older_has : numbered number older ≡ Some item = rw other.0 at e in
-      numbered_each P number older item all.1 older_has
-]
+numbered_each P number (x ∷ older) item all e =
+    let next = numbered_each P number older item all.1 in grind (arith, all, e, next)
 
 -- a stored request is read back
 pub stored_request : (world : Kept) (lines : List Numbered) (number : ℕ) (bytes : List ℕ) → EndsStand world lines
@@ -247,25 +204,21 @@ taken old lines number t w who l request reading asked asker tv owners ends sent
     let seen : Some ticket ≡ open_ticket lines (suc (length before)) ticket = rw not_given refl in
     let stored_after : AreStored (open_ticket lines) (old.tv.takes.items ++ Some ticket ∷ []) (ticket ∷ before) =
     pushed (open_ticket lines) old.tv.takes.items before ticket (Some ticket) ends.takes seen in
-    let stored_so : AreStored (open_ticket lines) tv.takes.items (ticket ∷ before) =
-    subst (λ (kept : List (Option Ticket)). AreStored (open_ticket lines) kept (ticket ∷ before))
-    (sym put) stored_after in
+    let stored_so : AreStored (open_ticket lines) tv.takes.items (ticket ∷ before) = rw put stored_after in
     let owned_after : AreStored owner (old.taken_for ++ asker ∷ []) (asker ∷ taken_for lines) =
     pushed owner old.taken_for (taken_for lines) asker asker ends.taken_for refl in
     let ahead : (take : ℕ) → suc (length before) < take → is_given take lines ≡ false =
     λ take above. ends.none_ahead take (omega arith) in
     record {
       lanes = all_lanes old.header lines number t w who l (Take request reading) old.lanes (λ n. refl) ends.lanes;
-      stage = subst (λ (stage : Stage). tvs.StandsFor stage (events_of old.header lines)) (sym same_stage) ends.stage;
-      server = subst (λ (ts : List Ticket). servers.StandsFor tv.tv.server ts) (sym same) stands;
+      stage = rw same_stage ends.stage;
+      server = rw same stands;
       in_range = ends.in_range;
-      none_ahead =
-          subst (λ (ts : List Ticket). (take : ℕ) → length ts < take → is_given take lines ≡ false) (sym same) ahead;
+      none_ahead = rw same ahead;
       requests = ends.requests;
       askers = ends.askers;
-      takes = subst (λ (ts : List Ticket). AreStored (open_ticket lines) tv.takes.items ts) (sym same) stored_so;
-      taken_for = subst (λ (xs : List ℕ). AreStored owner owners xs) (sym same_owners)
-          (subst (λ (kept : List ℕ). AreStored owner kept (asker ∷ taken_for lines)) (sym put_too) owned_after);
+      takes = rw same stored_so;
+      taken_for = rw same_owners (rw put_too owned_after);
       datagrams = ends.datagrams;
       made_for = ends.made_for;
     }

@@ -1,6 +1,6 @@
 -- What a television tells is in flight to the companion that it is for, and to no other one.
-use Rattle.std.proofs.Common.{◌≡◌, ◌≢◌, ℕ, ◌+◌, ◌-◌, ◌/◌, ◌%◌, ◌≤◌, arith, Bool, cond}
-use Rattle.std.proofs.Common.{List, [], ◌∷◌, ◌++◌, append-nil, length, refl, ap, sym, subst, ◌∙◌, inl, inr, ne_eqb}
+use Rattle.std.proofs.Common.{◌≡◌, ◌≢◌, ℕ, ◌+◌, ◌-◌, ◌/◌, ◌%◌, ◌≤◌, arith, Bool, cond, List, [], ◌∷◌, ◌++◌, append-nil}
+use Rattle.std.proofs.Common.{length, refl, ap, sym, subst, ◌∙◌, inl, inr, ne_eqb}
 use Rattle.std.specs.Prelude.{Some, map, slice_set, Result, Ok, Err, OnOk}
 use Rattle.std.proofs.lemmas.Bool.Decides.{eqb_tells}
 use Rattle.css_num.specs.declared.protocol.Kind.TheVariants as kind
@@ -15,8 +15,7 @@ use Rattle.css_world.specs.declared.session.Phase.TheVariants.{Unopened, Open, O
 use Rattle.css_world.specs.Flights.{Session, grown, with_news, news_of}
 use Rattle.css_world.specs.Lanes.{IsFor, TakesUp, AllTakeUp, KeepsAllButTexts}
 use Rattle.css_world.proofs.News.{told-next}
-use Rattle.css_world.proofs.Numbers.{stored_within, stored_same, set_there, set_others, set_part, part_kept}
-use Rattle.css_world.proofs.Numbers.{count_kept}
+use Rattle.css_world.proofs.Numbers.{stored_within, stored_same, set_there, set_others, set_part, part_kept, count_kept}
 
 -- ---- nothing is told
 -- a queue without more texts
@@ -64,9 +63,8 @@ pub one_told : (out : TvOut) (who : ℕ) (old new : List Lane) → IsFor out who
     → AllTakeUp (out ∷ []) old new
 one_told out who old new is others told other before found = elim (eqb_tells other who) [
   | inl same ↦
-      let here : stored old who ≡ Some before = subst (λ n. stored old n ≡ Some before) same.1 found in
-      subst (λ n. (after : Lane) × (stored new n ≡ Some after) × TakesUp n (out ∷ []) before after) (sym same.1)
-      (told before here)
+      let here : stored old who ≡ Some before = rw same.1 at found in
+      rw same.1 (told before here)
   | inr differs ↦
       let none = is other (stored_within old other before found).0 differs.1 in (
         before,

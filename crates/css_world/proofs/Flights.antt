@@ -1,8 +1,7 @@
 -- Texts in flight: which comes next, and what is left.
-use Rattle.std.proofs.Common.{◌≡◌, ◌≢◌, ℕ, suc, ◌-◌, ◌<◌, ◌≤◌, arith, Bool, true, false, cond, List}
-use Rattle.std.proofs.Common.{[], ◌∷◌, ◌++◌, length, take, drop, refl, ap, sym, subst, ◌∙◌, ◌⊎◌, inl}
-use Rattle.std.proofs.Common.{inr, append_assoc, length-append, length-drop, eq-eqb, ne_eqb}
-use Rattle.std.specs.Prelude.{Some, None, Ok, Err, reverse}
+use Rattle.std.proofs.Common.{◌≡◌, ◌≢◌, ℕ, suc, ◌-◌, ◌<◌, ◌≤◌, arith, Bool, true, false, cond, List, [], ◌∷◌, ◌++◌}
+use Rattle.std.proofs.Common.{length, take, drop, refl, ap, sym, subst, ◌∙◌, ◌⊎◌, append_assoc, length-append}
+use Rattle.std.proofs.Common.{length-drop, eq-eqb, ne_eqb, Some, None, Ok, Err, reverse}
 use Rattle.std.proofs.lemmas.List.{reverse-reverse, reverse-append, take-append-drop}
 use Rattle.std.proofs.Math.Seq.{take-append_seam}
 use Rattle.css_meaning.specs.declared.fault.WorldFault.{WorldFault}
@@ -10,9 +9,9 @@ use Rattle.css_meaning.specs.declared.fault.WorldFault.TheVariants.{Absent}
 use Rattle.css_meaning.specs.Numbering.{numbered}
 use Rattle.css_meaning.specs.Sessions.{in_flight, next_of}
 use Rattle.css_world.specs.declared.session.Phase.{Phase}
-use Rattle.css_world.specs.declared.session.Phase.TheVariants.{Unopened, Open, Over}
-use Rattle.css_world.specs.Flights.{Session, opened_from, closed_from, grown, with_news, with_written}
-use Rattle.css_world.specs.Flights.{first_in, rest_in, phase_of, queue_of, SessionCarries}
+use Rattle.css_world.specs.declared.session.Phase.TheVariants.{Open, Over}
+use Rattle.css_world.specs.Flights.{Session, opened_from, closed_from, grown, with_news, with_written, first_in}
+use Rattle.css_world.specs.Flights.{rest_in, phase_of, queue_of, SessionCarries}
 
 -- ---- numbers
 -- where items are numbered from 1, the number of an item is one more than how many came before it
@@ -113,56 +112,29 @@ splits-next sent received (text ∷ queue) splits =
 pub opened-ok : (phase : Phase) (live opened : Bool) (old new : Session) → phase ≡ phase_of live opened
     → opened_from phase old ≡ Ok new
     → (live ≡ false) × (opened ≡ false) × (new ≡ record { phase = Open; down = old.down; up = old.up })
-opened-ok Unopened true opened old new is ok = absurd (cc)
-opened-ok Unopened false true old new is ok = absurd (cc)
-opened-ok Unopened false false old new is ok = (
-  refl,
-  refl,
-  let same : record { phase = Open; down = old.down; up = old.up } ≡ new = cc in sym same,
-)
-opened-ok Open live opened old new is ok = absurd (cc)
-opened-ok Over live opened old new is ok = absurd (cc)
+opened-ok phase live opened old new is ok = grind (arith, is, ok)
 
 -- one that doesn't open is open, or it was
 pub opened-err : (phase : Phase) (live opened : Bool) (old : Session) (fault : WorldFault)
     → phase ≡ phase_of live opened → opened_from phase old ≡ Err fault
     → ((live ≡ true) ⊎ (opened ≡ true)) × (fault ≡ Absent)
-opened-err Unopened live opened old fault is err = absurd (cc)
-opened-err Open true opened old fault is err = (inl refl, let same : Absent ≡ fault = cc in sym same)
-opened-err Open false true old fault is err = absurd (cc)
-opened-err Open false false old fault is err = absurd (cc)
-opened-err Over true opened old fault is err = absurd (cc)
-opened-err Over false true old fault is err = (inr refl, let same : Absent ≡ fault = cc in sym same)
-opened-err Over false false old fault is err = absurd (cc)
+opened-err phase live opened old fault is err = grind (arith, is, err)
 
 -- a session that closes is open
 pub closed-ok : (phase : Phase) (live opened : Bool) (new : Session) → phase ≡ phase_of live opened
     → closed_from phase ≡ Ok new
     → (live ≡ true) × (new ≡ record { phase = Over; down = []; up = [] })
-closed-ok Unopened live opened new is ok = absurd (cc)
-closed-ok Open true opened new is ok = (
-  refl,
-  let same : record { phase = Over; down = []; up = [] } ≡ new = cc in sym same,
-)
-closed-ok Open false true new is ok = absurd (cc)
-closed-ok Open false false new is ok = absurd (cc)
-closed-ok Over live opened new is ok = absurd (cc)
+closed-ok phase live opened new is ok = grind (arith, is, ok)
 
 -- one that doesn't close isn't
 pub closed-err : (phase : Phase) (live opened : Bool) (fault : WorldFault) → phase ≡ phase_of live opened
     → closed_from phase ≡ Err fault
     → (live ≡ false) × (fault ≡ Absent)
-closed-err Unopened true opened fault is err = absurd (cc)
-closed-err Unopened false opened fault is err = (refl, let same : Absent ≡ fault = cc in sym same)
-closed-err Open live opened fault is err = absurd (cc)
-closed-err Over true opened fault is err = absurd (cc)
-closed-err Over false opened fault is err = (refl, let same : Absent ≡ fault = cc in sym same)
+closed-err phase live opened fault is err = grind (arith, is, err)
 
 -- whether it is open, by its phase
 pub is-live : (live opened : Bool) → phase_of live opened ≡ Open → live ≡ true
-is-live true opened is = refl
-is-live false true is = absurd (cc)
-is-live false false is = absurd (cc)
+is-live live opened is = grind (arith, is)
 
 -- ---- sessions
 -- the first text in a queue is the next one, if the session is open
@@ -201,8 +173,7 @@ module _ {session : Session} {opened : Bool} {told heard written received : List
 
   -- and that of its companion
   up-splits : SessionCarries session true opened told heard written received → Splits written received session.up
-  up-splits carries =
-      subst (Splits written received) (sym carries.up) (flight-splits written received carries.received_of)
+  up-splits carries = rw carries.up (flight-splits written received carries.received_of)
 
   -- a text of the television came
   pub heard-one : (text : List ℕ) → SessionCarries session true opened told heard written received
@@ -213,8 +184,7 @@ module _ {session : Session} {opened : Bool} {told heard written received : List
       let first : first_in (phase_of true opened) session.down ≡ Some text =
       ap (λ p. first_in p session.down) (sym carries.phase) ∙ is in
       let left : Splits told (text ∷ heard) (rest_in session.phase session.down) =
-      subst (λ p. Splits told (text ∷ heard) (rest_in p session.down)) (sym carries.phase)
-      (rest-of opened told heard session.down text (down-splits carries) first) in
+      rw carries.phase (rest-of opened told heard session.down text (down-splits carries) first) in
       record {
         phase = carries.phase;
         down = sym (splits-queue told (text ∷ heard) (rest_in session.phase session.down) left);
@@ -232,8 +202,7 @@ module _ {session : Session} {opened : Bool} {told heard written received : List
       let first : first_in (phase_of true opened) session.up ≡ Some text =
       ap (λ p. first_in p session.up) (sym carries.phase) ∙ is in
       let left : Splits written (text ∷ received) (rest_in session.phase session.up) =
-      subst (λ p. Splits written (text ∷ received) (rest_in p session.up)) (sym carries.phase)
-      (rest-of opened written received session.up text (up-splits carries) first) in
+      rw carries.phase (rest-of opened written received session.up text (up-splits carries) first) in
       record {
         phase = carries.phase;
         down = carries.down;

@@ -1,7 +1,6 @@
 -- A line that was carried out is one more that the world stands for.
-use Rattle.std.proofs.Common.{◌≡◌, ◌<◌, ℕ, Bool, true, false, cond, List, [], ◌∷◌, ◌++◌}
-use Rattle.std.proofs.Common.{append-nil, refl, ap, sym, subst, ◌∙◌, inl, inr}
-use Rattle.std.specs.Prelude.{Option, Some, None, IfSome, length, Result, Ok, Err, OnOk, OnErr}
+use Rattle.std.proofs.Common.{◌≡◌, ◌<◌, ℕ, Bool, true, false, cond, List, [], ◌∷◌, ◌++◌, append-nil, refl, ap, sym}
+use Rattle.std.proofs.Common.{subst, ◌∙◌, inl, inr, Option, Some, None, IfSome, length, Result, Ok, Err, OnOk, OnErr}
 use Rattle.std.specs.Option.{option_map, ForSome}
 use Rattle.std.specs.Result.{result_and, IsErrAnd}
 use Rattle.css_num.specs.Gives.{GivesBy, LeavesBy}
@@ -15,21 +14,19 @@ use Rattle.css_schedule.specs.declared.line.Line.{Line}
 use Rattle.css_schedule.specs.declared.line.Verb.{Verb}
 use Rattle.css_meaning.specs.declared.fault.WorldFault.{WorldFault}
 use Rattle.css_meaning.specs.declared.fault.WorldFault.TheVariants.{Absent, Memory}
-use Rattle.css_meaning.specs.Clocks.{told_by, shown_at, has_woken, last_reading, near_verdict, reading_verdict}
+use Rattle.css_meaning.specs.Clocks.{told_by, shown_at, has_woken, last_reading, reading_verdict}
 use Rattle.css_meaning.specs.Happened.{Numbered, events_of}
 use Rattle.css_meaning.specs.Accepted.{IsNext}
-use Rattle.css_meaning.specs.Verdicts.{tv_seen, seen_of_tv, seen_of, local_of, tv_reading, own_reading}
-use Rattle.css_meaning.specs.Verdicts.{reading_tested, tested, can_happen, event_at, played, printed_for, carried_out}
-use Rattle.css_meaning.specs.Verdicts.{line_meant}
+use Rattle.css_meaning.specs.Verdicts.{tv_seen, seen_of_tv, seen_of, local_of, tv_reading, own_reading, reading_tested}
+use Rattle.css_meaning.specs.Verdicts.{tested, can_happen, event_at, played, printed_for, carried_out, line_meant}
 use Rattle.css_meaning.proofs.Accepting.{next_own}
-use Rattle.css_meaning.proofs.Lawful.{order-ok}
+use Rattle.css_meaning.proofs.Lawful.{order_by}
 use Rattle.css_meaning.proofs.Truth.{accepted_lines_are_true}
 use Rattle.css_meaning.proofs.Worlds.{second_ok}
 use Rattle.css_world.specs.declared.both.Ends.{Ends}
 use Rattle.css_world.specs.declared.clocks.Clocks.{Clocks}
 use Rattle.css_world.specs.Standing.{World, Kept, EndsStand, IsReady, StandsFor, carried, CarriesOut, PrintsFor, Prints}
-use Rattle.css_world.specs.Standing.{ShowsBy, ShownTo, ReadsBy, ReadTo, AreNext, MayRead, MayTake, Means}
-use Rattle.css_world.specs.Standing.{GoesOn, appended}
+use Rattle.css_world.specs.Standing.{ShowsBy, ShownTo, ReadsBy, ReadTo, AreNext, MayTake, Means, GoesOn, appended}
 use Rattle.css_world.specs.Standing.{TellsTruth}
 use Rattle.css_world.proofs.Owning.{are_on}
 
@@ -67,13 +64,14 @@ answers-as before after printed (Err fault) done verdict is (inl told) ok err =
 answers-as before after printed (Err fault) done verdict is (inr memory) ok err = (err, inr memory)
 
 -- a line for which nothing is printed
-pub prints_nothing : (old new : Ends) (before : List ℕ) (result : Result (Unit {0}) WorldFault) (now : Numbered)
-    (verb : Verb) → now.line.verb ≡ verb
-    → ((header : Header) (lines : List Numbered) → printed_for header lines now verb ≡ [])
-    → CarriesOut old new result now.line.who verb
-    → Prints old new before before result now
-prints_nothing old new before result now verb is nothing carries = λ header lines ready may.
-    let who = now.line.who in
+pub prints_nothing : (old new : Ends) (before : List ℕ) (result : Result (Unit {0}) WorldFault) (number : ℕ)
+    (line : Line) {verb : Verb} → line.verb ≡ verb
+    → (let now : Numbered = record { number = number; line = line } in
+    ((header : Header) (lines : List Numbered) → printed_for header lines now verb ≡ [])
+    → CarriesOut old new result line.who verb → Prints old new before before result now)
+prints_nothing old new before result number line {verb} is nothing carries = λ header lines ready may.
+    let now : Numbered = record { number = number; line = line } in
+    let who = line.who in
     let done = carries header lines now refl is ready (subst (MayTake who lines) is may) in
     let verdict = carried-out header lines now verb is
     ∙ ap (λ p. result_and (carried header lines who verb) (Ok p)) (nothing header lines) in
@@ -146,16 +144,11 @@ lines_next world lines number stands next = record {
 pub may_take : (header : Header) (lines : List Numbered) (now : Numbered) → reading_tested header lines now ≡ Ok tt
     → MayTake now.line.who lines now.line.verb
 may_take header lines now is =
-    by (own_reading now.line.verb) (second_ok (reading_verdict now.number (precision_ns header.tv_precision) now.line.w
-    false (last_reading (seen_of_tv lines)) (tv_reading now.line.verb)) _ tt is)
-  where
-    by : (own : Option ℕ) → reading_verdict now.number (local_of now.line.who header).precision now.line.l
-        (has_woken (seen_of now.line.who lines)) (last_reading (seen_of now.line.who lines)) own ≡ Ok tt
-        → IfSome own (MayRead now.line.who lines)
-    by None tested = tt
-    by (Some reading) tested =
-        order-ok (has_woken (seen_of now.line.who lines)) (last_reading (seen_of now.line.who lines)) reading
-        (second_ok (near_verdict now.number (local_of now.line.who header).precision now.line.l reading) _ tt tested)
+    let who = now.line.who in
+    order_by now.number (local_of who header).precision now.line.l (has_woken (seen_of who lines))
+    (last_reading (seen_of who lines)) (own_reading now.line.verb)
+    (second_ok (reading_verdict now.number (precision_ns header.tv_precision) now.line.w false
+    (last_reading (seen_of_tv lines)) (tv_reading now.line.verb)) _ tt is)
 
 -- ---- a line
 -- nothing is promised after a fault
@@ -172,8 +165,7 @@ pub means_fault : (old : World) (before : List ℕ) (result : Result (Unit {0}) 
 means_fault old before result fault now is tests = λ lines stands.
     let told : line_meant old.header lines now ≡ Err fault =
     ap (λ (r : Result (Unit {0}) WorldFault). result_and r (carried_out old.header lines now)) (tests lines stands) in
-    subst (λ (r : Result (Unit {0}) WorldFault). LeavesBy Memory r before before
-    (appended before (line_meant old.header lines now))) (sym is) (refl, inl (ap (appended before) told))
+    rw is (refl, inl (ap (appended before) told))
 
 -- A line is shown to the clocks, then its reading, and then it is carried out: what each step left.
 pub record Steps (header : Header) (old shown read : Clocks) (ends new : Ends) (before after : List ℕ)
@@ -203,8 +195,7 @@ stood {old} {now} {lines} view = subst (λ (w : World). StandsFor w lines) (sym 
 -- a line is of one of so many companions
 pub is_second : {old now : World} {line : Line} {n : ℕ} → old ≡ now → n ≡ length old.header.companions
     → IsSecond (length now.header.companions) line → IsSecond n line
-is_second {old} {now} {line} view count of =
-    subst (λ n. IsSecond n line) (sym (count ∙ ap (λ (w : World). length w.header.companions) view)) of
+is_second {old} {now} {line} view count of = rw (count ∙ ap (λ (w : World). length w.header.companions) view) of
 
 module _ {header : Header} {old shown read : Clocks} {ends new : Ends} {before after : List ℕ} {now : Numbered} where
   -- its numbers passed their tests
@@ -232,9 +223,7 @@ module _ {header : Header} {old shown read : Clocks} {ends new : Ends} {before a
       → Steps header old shown read ends new before after result now
       → Means (world_as header old ends) before after result now
   line_answers result steps lines stands =
-      subst (λ (v : Result (List ℕ) WorldFault). LeavesBy Memory result before after (appended before v))
-      (sym (meant lines steps stands))
-      (steps.prints header lines stands.ready (passed lines steps stands).1).answer
+      rw (meant lines steps stands) (steps.prints header lines stands.ready (passed lines steps stands).1).answer
 
   -- the world stands for the line too
   pub line_stands : (result : Result (Unit {0}) WorldFault)

@@ -1,23 +1,20 @@
 -- What a television tells by an event is in flight, and is what its sessions were to be told by it.
-use Rattle.std.proofs.Common.{◌≡◌, ℕ, List, [], ◌∷◌, ◌++◌, refl, sym, ap, ap₂, subst, ◌∙◌, append_assoc}
-use Rattle.std.specs.Prelude.{Result, Ok, Err, filter, map, reverse}
-use Rattle.std.specs.List.{filter_map}
-use Rattle.std.proofs.lemmas.List.{reverse-append, map-append}
+use Rattle.std.proofs.Common.{◌≡◌, ℕ, List, [], ◌∷◌, ◌++◌, refl, sym, ap, ap₂, ◌∙◌, append_assoc, filter_map, subst}
+use Rattle.std.proofs.Common.{Result, Ok, Err, filter, map, reverse}
+use Rattle.std.proofs.lemmas.List.{map-append}
 use Rattle.std.proofs.lemmas.List.Elements.{filter-append, filter_map-append}
 use Rattle.css_player.specs.Player.{Player}
 use Rattle.css_player.specs.Events.{player_of}
 use Rattle.css_sessions.specs.declared.session.Said.{Said}
-use Rattle.css_sessions.specs.Kept.{Event as SessionsCall, Kept, step_of}
+use Rattle.css_sessions.specs.Kept.{Event as SessionsCall, Kept}
 use Rattle.css_sessions.specs.Told.{IsLawful, said_to, texts_of, sessions_of}
-use Rattle.css_sessions.proofs.Telling.{told_now}
-use Rattle.css_tv.specs.Outcomes.{Outcome, outcome, outcome_at, kept_after, said_after, say}
-use Rattle.css_tv.specs.Outcomes.{outs as outcome_outs}
+use Rattle.css_tv.proofs.More.{said_in, texts_all}
+use Rattle.css_tv.specs.Outcomes.{Outcome, outcome, outcome_at, said_after, outs as outcome_outs}
 use Rattle.css_tv.specs.Stages.{Stage}
 use Rattle.css_tv.specs.Standing as tvs
 use Rattle.css_tv.specs.Standing.{Calls, calls_of, with_outcome, said_by}
 use Rattle.css_tv.specs.declared.event.TvEvent.{TvEvent}
 use Rattle.css_tv.specs.declared.event.TvOut.{TvOut}
-use Rattle.css_tv.specs.declared.event.TvOut.TheVariants as outs
 use Rattle.css_tv.specs.declared.fault.TvFault.{TvFault}
 use Rattle.css_meaning.specs.Sessions.{addresses, told_to}
 use Rattle.css_world.specs.declared.session.Phase.{Phase}
@@ -53,43 +50,11 @@ told-next peer xs out first before after is then_is =
     ∙ ap (λ texts. whole (grown first.phase first.down texts)) (sym (news-append peer xs (out ∷ [])))
 
 -- ---- what an event of the television tells
--- a session keeps what calls leave
-kept-all : (calls older : List SessionsCall) → kept_after calls (sessions_of older) ≡ sessions_of (calls ++ older)
-kept-all [] older = refl
-kept-all (call ∷ calls) older = ap (λ kept. (step_of call kept).kept) (kept-all calls older)
-
--- what calls say is what they add to the texts of each session
-said-all : (calls older : List SessionsCall) → IsLawful (calls ++ older) → (peer : ℕ)
-    → texts_of peer (calls ++ older)
-    ≡ reverse (said_to peer (said_after calls (sessions_of older))) ++ texts_of peer older
-said-all [] older lawful peer = refl
-said-all (call ∷ calls) older lawful peer =
-    let before : List Said = said_after calls (sessions_of older) in
-    let now : List Said = (step_of call (kept_after calls (sessions_of older))).said in
-    told_now call (calls ++ older) lawful peer
-    ∙ ap (λ kept. reverse (said_to peer (step_of call kept).said) ++ texts_of peer (calls ++ older))
-    (sym (kept-all calls older))
-    ∙ ap (λ texts. reverse (said_to peer now) ++ texts) (said-all calls older lawful.0 peer)
-    ∙ sym (append_assoc (reverse (said_to peer now)) (reverse (said_to peer before)) (texts_of peer older))
-    ∙ ap (λ texts. texts ++ texts_of peer older) (sym (reverse-append (said_to peer before) (said_to peer now)))
-    ∙ ap (λ texts. reverse texts ++ texts_of peer older) (sym (said_to-append peer before now))
-
--- the texts among what is told of an outcome
-texts-in : (said : List Said) → filter_map said_by (map say said) ≡ said
-texts-in [] = refl
-texts-in (one ∷ said) = ap (λ rest. one ∷ rest) (texts-in said)
-
--- no text is in the ends of sessions
-none-in : (peers : List ℕ) (rest : List TvOut)
-    → filter_map said_by (map outs.HangUp peers ++ rest) ≡ filter_map said_by rest
-none-in [] rest = refl
-none-in (peer ∷ peers) rest = none-in peers rest
-
 -- what an outcome tells a peer
 news-of-outcome : (peer : ℕ) (o : Outcome) (kept : Kept)
     → news_of peer (outcome_outs o kept) ≡ said_to peer (said_after o.called kept)
 news-of-outcome peer o kept =
-    ap (said_to peer) (none-in o.hung_up (map say (said_after o.called kept)) ∙ texts-in (said_after o.called kept))
+    ap (said_to peer) (said_in o kept [])
 
 -- the outcome at a stage is that of the events it stands for
 pub outcome-same : (e : TvEvent) (stage : Stage) (events : List TvEvent) → tvs.StandsFor stage events
@@ -113,12 +78,11 @@ texts-after peer e old new events told (Ok o) is done stands after =
     } =
     ap (λ x. with_outcome x (calls_of old.addresses events)) (sym (outcome-same e old events stands) ∙ is) in
     let lawful : IsLawful (o.called ++ older) =
-    subst (λ (c : Calls). IsLawful c.sessions) (ap (λ (s : Stage). calls_of s.addresses (e ∷ events)) done.stage
-    ∙ calls) after.sessions.lawful in
+    rw (ap (λ (s : Stage). calls_of s.addresses (e ∷ events)) done.stage ∙ calls) at after.sessions.lawful in
     let news : news_of peer told ≡ said_to peer (said_after o.called (sessions_of older)) =
     ap (news_of peer) done.out ∙ news-of-outcome peer o old.sessions
     ∙ ap (λ k. said_to peer (said_after o.called k)) stands.sessions.same in
-    ap (λ (c : Calls). texts_of peer c.sessions) calls ∙ said-all o.called older lawful peer
+    ap (λ (c : Calls). texts_of peer c.sessions) calls ∙ texts_all o.called older lawful peer
     ∙ ap (λ texts. reverse texts ++ texts_of peer older) (sym news)
 
 -- an event that the television took in tells each peer what it was to be told

@@ -1,13 +1,12 @@
 -- Items by number, the oldest first: what is written is there, and each other item is as before.
-use Rattle.std.proofs.Common.{◌≡◌, ◌≢◌, ℕ, zero, suc, ◌-◌, ◌<◌, ◌≤◌, arith, List, [], ◌∷◌, ◌++◌, length}
-use Rattle.std.proofs.Common.{refl, ap, sym, subst, ◌∙◌, ◌⊎◌, inl, inr}
-use Rattle.std.specs.Prelude.{Option, Some, None, map, slice_get, slice_set}
-use Rattle.std.specs.Option.{option_map}
+use Rattle.std.proofs.Common.{◌≡◌, ◌≢◌, ℕ, zero, suc, ◌-◌, ◌<◌, ◌≤◌, arith, List, [], ◌∷◌, ◌++◌, length, refl, ap, sym}
+use Rattle.std.proofs.Common.{◌∙◌, ◌⊎◌, inl, inr, option_map, Option, Some, None, map, slice_get, slice_set, subst}
 use Rattle.std.proofs.lemmas.Bool.Decides.{eqb_tells}
 use Rattle.std.proofs.lemmas.List.{length-map}
 use Rattle.std.proofs.lemmas.Option.{slice_get-map, slice_get_within}
 use Rattle.css_meaning.specs.Numbering.{stored}
-use Rattle.css_world.proofs.Storing.{mapped_some, slice_get-set_other, slice_get-before, slice_get-pushed}
+use Rattle.css_meaning.proofs.Made.{mapped_some}
+use Rattle.css_world.proofs.Storing.{slice_get-set_other, slice_get-before, slice_get-pushed}
 
 -- ---- what is there
 -- an item has a number from 1 to the count
@@ -62,8 +61,7 @@ pub stored_pushed : {A : Type 0} (items : List A) (new : A) (who : ℕ) (item : 
 stored_pushed items new zero item is = absurd (cc)
 stored_pushed items new (suc place) item is = elim (eqb_tells place (length items)) [
   | inl same ↦
-      let at_end : slice_get (items ++ new ∷ []) place ≡ Some new =
-      subst (λ (p : ℕ). slice_get (items ++ new ∷ []) p ≡ Some new) (sym same.1) (slice_get-pushed items new) in
+      let at_end : slice_get (items ++ new ∷ []) place ≡ Some new = rw same.1 (slice_get-pushed items new) in
       let equal : Some item ≡ Some new = sym is ∙ at_end in
       inl (ap suc same.1, cc)
   | inr other ↦ inr (sym (slice_get-before items new place other.1) ∙ is)
@@ -101,10 +99,9 @@ pub each_written : {A : Type 0} (P : ℕ → A → Type 0) (items : List A) (who
 each_written P items who item first within each new other x is = elim (eqb_tells other who) [
   | inl same ↦
       let here : stored (slice_set items (who - 1) item) other ≡ Some item =
-      subst (λ (n : ℕ). stored (slice_set items (who - 1) item) n ≡ Some item) (sym same.1)
-      (set_there items who item first within) in
+      rw same.1 (set_there items who item first within) in
       let equal : item ≡ x = stored_same (slice_set items (who - 1) item) other item x here is in
-      subst (P other) equal (subst (λ (n : ℕ). P n item) (sym same.1) new)
+      subst (P other) equal (rw same.1 new)
   | inr differs ↦ each other x differs.1 (sym (set_others items who other item first differs.1) ∙ is)
 ]
 

@@ -33,15 +33,11 @@ use Rattle.css_world.proofs.Numbers.{each_set, set_part, stored_within}
 -- the next reading after a sleep is at most one more than a reading that may come now
 sleep-above : (woken : Bool) (last : Option Reading) (reading : ℕ) → least_next woken last ≤ reading
     → least_next true last ≤ reading + 1
-sleep-above woken None reading least = omega arith
-sleep-above true (Some last) reading least = omega (arith, least)
-sleep-above false (Some last) reading least = omega (arith, least)
+sleep-above woken last reading least = grind (arith, least)
 
 -- and no less than that
 sleep-least : (woken : Bool) (last : Option Reading) → least_next woken last ≤ least_next true last
-sleep-least woken None = omega arith
-sleep-least true (Some last) = omega arith
-sleep-least false (Some last) = omega arith
+sleep-least woken last = grind arith
 
 -- the last reading, and whether the companion slept, after one more line
 abbrev last_with : ℕ → Option ℕ → Option Reading → Option Reading
@@ -145,17 +141,16 @@ are_on ends lines now who verb own is may was = record {
       | inl same ↦
           let seen = seen_of n lines in
           let here : MayTake n lines now.line.verb =
-          subst (λ k. MayTake k lines now.line.verb) (sym own ∙ same.1) (subst (MayTake who lines) (sym is) may) in
+          subst (λ k. MayTake k lines now.line.verb) (sym own ∙ same.1) (rw is may) in
           let up = rises now.number (own_reading now.line.verb) (is_sleep now.line.verb) (has_woken seen)
           (last_reading seen) here in
-          subst (λ (s : List Seen). IsLaneOf ends.header n s lane) (sym (seen_own now lines n same.1)) (record {
+          rw (seen_own now lines n same.1) (record {
             own = of.own;
             setup = of.setup;
             floor = omega (arith, of.floor, up.0);
             after_sleep = omega (arith, of.after_sleep, up.1);
           })
-      | inr other ↦
-          subst (λ (s : List Seen). IsLaneOf ends.header n s lane) (sym (seen_other now lines n other.1)) of
+      | inr other ↦ rw (seen_other now lines n other.1) of
     ]
 
 -- where one lane is written over
@@ -235,8 +230,7 @@ few {ends} ready = subst (λ n. n ≤ max_companions) (sym ready.are.count) read
 -- so are they after one was written over
 pub few_set : {ends : Kept} {lines : List Numbered} (who : ℕ) (lane : Lane) → IsReady ends lines
     → length (slice_set ends.lanes (who - 1) lane) ≤ max_companions
-few_set {ends} who lane ready =
-    subst (λ n. n ≤ max_companions) (sym (length-set ends.lanes (who - 1) lane)) (few ready)
+few_set {ends} who lane ready = rw (length-set ends.lanes (who - 1) lane) (few ready)
 
 -- and so are the numbers of companions
 pub few_numbers : {ends : Kept} {lines : List Numbered} (who : ℕ) → IsReady ends lines → who ≤ length ends.lanes
@@ -249,8 +243,7 @@ few_numbers who ready within =
 pub within_played : (who : ℕ) (lane : Lane) (old played : List Lane) → who ≤ length old
     → KeepsAllButTexts (slice_set old (who - 1) lane) played → who ≤ length played
 within_played who lane old played within kept =
-    subst (λ n. who ≤ n) (sym (as_many (slice_set old (who - 1) lane) played kept ∙ length-set old (who - 1) lane))
-    within
+    rw (as_many (slice_set old (who - 1) lane) played kept ∙ length-set old (who - 1) lane) within
 
 -- ---- refusals
 refused_by : (old new : Ends) (fault : WorldFault) → KeepsBoth old new → KeepsRefused old new fault
@@ -276,8 +269,7 @@ refused_kept old new (Err fault) both = refused_by old new fault both
 pub refused_memory : (old new : Ends) (result : Result (Unit {0}) WorldFault)
     → IsErrAnd result (λ fault. fault ≡ faults.Memory) → IfErr result (λ fault. KeepsRefused old new fault)
 refused_memory old new (Ok x) memory = tt
-refused_memory old new (Err fault) memory =
-    subst (λ f. KeepsRefused old new f) (sym memory) (let none : KeepsRefused old new faults.Memory = tt in none)
+refused_memory old new (Err fault) memory = rw memory (let none : KeepsRefused old new faults.Memory = tt in none)
 
 -- and where the player refuses
 pub refused_played : (old new : Ends) (who : ℕ) (before after : Lane) (result : Result (Unit {0}) WorldFault)
@@ -286,8 +278,7 @@ pub refused_played : (old new : Ends) (who : ℕ) (before after : Lane) (result 
     → KeepsAllButTexts (slice_set old.lanes.list.items (who - 1) after) new.lanes.list.items
     → KeepsTv old.tv.tv new.tv.tv fault → IfErr result (λ f. KeepsRefused old new f)
 refused_played old new who before after (Ok x) fault is found same kept tv = tt
-refused_played old new who before after (Err exit) fault is found same kept tv =
-    subst (λ f. KeepsRefused old new f) (sym is) (by fault tv)
+refused_played old new who before after (Err exit) fault is found same kept tv = rw is (by fault tv)
   where
     by : (f : WorldFault) → KeepsTv old.tv.tv new.tv.tv f → KeepsRefused old new f
     by faults.Memory tv = tt

@@ -1,6 +1,5 @@
 -- What a companion tells at a line is what the lines before it tell; and what it may be asked.
-use Rattle.std.proofs.Common.{◌≡◌, ℕ, ℤ, arith, List, refl, ap, sym, ◌∙◌}
-use Rattle.std.specs.Prelude.{Option, Some, None}
+use Rattle.std.proofs.Common.{◌≡◌, ℕ, ℤ, arith, List, refl, ap, sym, ◌∙◌, Option, Some, None}
 use Rattle.css_num.specs.Spans.{Interval}
 use Rattle.css_model.specs.WallClock.{Local}
 use Rattle.css_model.specs.History.{History, accepted_answers}

@@ -1,19 +1,11 @@
 -- What is stored, the oldest first, of a list with the newest first.
-use Rattle.std.proofs.Common.{◌≡◌, ◌≢◌, ℕ, suc, zero, ◌≤◌, arith, List, [], ◌∷◌, ◌++◌, length}
-use Rattle.std.proofs.Common.{refl, ap, sym, subst, ◌∙◌, inl, inr, length-append, length-set}
-use Rattle.std.specs.Prelude.{Option, Some, None, slice_get, slice_set}
-use Rattle.std.specs.Option.{option_map}
+use Rattle.std.proofs.Common.{◌≡◌, ◌≢◌, ℕ, suc, zero, arith, List, [], ◌∷◌, ◌++◌, length, refl, ap, sym, subst, ◌∙◌}
+use Rattle.std.proofs.Common.{inl, inr, length-append, length-set, option_map, Option, Some, None, slice_get, slice_set}
 use Rattle.std.proofs.lemmas.Bool.Decides.{eqb_tells}
 use Rattle.css_meaning.specs.Numbering.{numbered, stored, spent}
 use Rattle.css_world.specs.Standing.{AreStored}
 
 -- ---- options
--- what is mapped to something is something
-pub mapped_some : {A B : Type 0} (f : A → B) (o : Option A) (y : B) → option_map f o ≡ Some y
-    → (x : A) × (o ≡ Some x) × (f x ≡ y)
-mapped_some f None y e = absurd (cc)
-mapped_some f (Some x) y e = (x, refl, cc)
-
 -- two functions that are equal map alike
 option_map-alike : {A B : Type 0} (f g : A → B) (o : Option A) → ((x : A) → f x ≡ g x) → option_map f o ≡ option_map g o
 option_map-alike f g None h = refl
@@ -58,18 +50,6 @@ slice_get-set_other (x ∷ items) item (suc place) (suc other) h =
     slice_get-set_other items item place other (λ e. h (ap suc e))
 
 -- ---- numbers
--- an item's number isn't above the count
-pub numbered_within : {A : Type 0} (number : ℕ) (items : List A) (item : A)
-    → numbered number items ≡ Some item → number ≤ length items
-numbered_within number [] item e = absurd (cc)
-numbered_within number (x ∷ older) item e = elim (eqb_tells number (suc (length older))) [
-  | inl same ↦ omega (arith, same.1)
-  | inr other ↦
-      let older_has : numbered number older ≡ Some item = rw other.0 at e in
-      let within : number ≤ length older = numbered_within number older item older_has in
-      omega arith
-]
-
 -- no item has the number 0
 numbered-zero : {A : Type 0} (items : List A) → numbered 0 items ≡ None
 numbered-zero [] = refl
@@ -94,9 +74,8 @@ pushed {A = A} {B = B} see items newest_first item seen are is = record { count 
     each_after (suc place) = elim (eqb_tells (suc place) (suc (length newest_first))) [
       | inl same ↦
           let last : length items ≡ place = omega (arith, same.1, are.count) in
-          let there : slice_get (items ++ seen ∷ []) place ≡ Some seen =
-          subst (λ (p : ℕ). slice_get (items ++ seen ∷ []) p ≡ Some seen) last (slice_get-pushed items seen) in
-          let as_seen : seen ≡ see (suc place) item = subst (λ (n : ℕ). seen ≡ see n item) (sym same.1) is in
+          let there : slice_get (items ++ seen ∷ []) place ≡ Some seen = rw last at (slice_get-pushed items seen) in
+          let as_seen : seen ≡ see (suc place) item = rw same.1 is in
           rw same.0 (there ∙ ap Some as_seen)
       | inr other ↦
           let before : place ≢ length items = λ e. other.1 (ap suc (e ∙ are.count)) in

@@ -1,8 +1,6 @@
 -- Whether what a line says can be carried out, and what a session then stands for.
-use Rattle.std.proofs.Common.{◌≡◌, ◌≤◌, ℕ, Bool, true, false, cond, not, List, ◌∷◌}
-use Rattle.std.proofs.Common.{refl, ap, sym, subst, ◌∙◌, ◌⊎◌, inl, inr}
-use Rattle.std.specs.Prelude.{◌&&◌, Option, Some, None, is_some, Result, Ok, Err}
-use Rattle.std.specs.Option.{option_map}
+use Rattle.std.proofs.Common.{◌≡◌, ◌≤◌, ℕ, Bool, true, false, cond, not, List, ◌∷◌, arith, refl, ap, sym, subst, ◌∙◌}
+use Rattle.std.proofs.Common.{◌⊎◌, inl, inr, option_map, ◌&&◌, Option, Some, None, is_some, Result, Ok, Err}
 use Rattle.std.specs.Result.{IsErrAnd}
 use Rattle.std.proofs.lemmas.Result.{err_from_is_err_and}
 use Rattle.css_model.specs.declared.Why.TheVariants as why
@@ -24,13 +22,12 @@ use Rattle.css_companion.specs.declared.event.CompanionEvent.{CompanionEvent}
 use Rattle.css_companion.proofs.Telling.{stands_aside}
 use Rattle.css_schedule.specs.declared.header.Header.{Header}
 use Rattle.css_schedule.specs.declared.line.Verb.{Verb}
-use Rattle.css_schedule.specs.declared.line.Verb.TheVariants.{Ask, Take, Give, Land}
-use Rattle.css_schedule.specs.declared.line.Verb.TheVariants.{Programme, Timeline, Viewer}
+use Rattle.css_schedule.specs.declared.line.Verb.TheVariants.{Ask, Take, Give, Land, Programme, Timeline, Viewer}
 use Rattle.css_schedule.specs.declared.line.Verb.TheVariants.{Opening, Bring, Up, Present, Close}
 use Rattle.css_meaning.specs.declared.fault.WorldFault.{WorldFault}
 use Rattle.css_meaning.specs.declared.fault.WorldFault.TheVariants.{Absent, Memory}
-use Rattle.css_meaning.specs.Sessions.{addresses, peer_of, is_open, was_opened, heard_from}
-use Rattle.css_meaning.specs.Sessions.{written_to, received_from, told_to, next_down, next_up}
+use Rattle.css_meaning.specs.Sessions.{addresses, peer_of, is_open, was_opened, heard_from, written_to, received_from}
+use Rattle.css_meaning.specs.Sessions.{told_to, next_down, next_up}
 use Rattle.css_meaning.specs.Happened.{Numbered, tickets, events_of, history_of}
 use Rattle.css_meaning.specs.Verdicts.{can_happen, event_at, played}
 use Rattle.css_meaning.specs.Accepted.{AreAccepted}
@@ -39,8 +36,7 @@ use Rattle.css_meaning.proofs.Dialled.{open_was, unwritten, untold}
 use Rattle.css_world.specs.declared.lane.Lane.{Lane}
 use Rattle.css_world.specs.declared.session.Phase.TheVariants as phases
 use Rattle.css_model.specs.declared.Kind.TheVariants as session
-use Rattle.css_world.specs.Flights.{Session, phase_of, opened, closed, first_in}
-use Rattle.css_world.specs.Flights.{SessionCarries, SessionStands, HasNews}
+use Rattle.css_world.specs.Flights.{Session, phase_of, opened, closed, first_in, SessionCarries, SessionStands, HasNews}
 use Rattle.css_world.specs.Lanes.{LanesStand, AllArePlayed, IsDialled}
 use Rattle.css_world.specs.Standing.{Kept, EndsStand, IsAtTv, carried, Carries}
 use Rattle.css_world.proofs.Carrying.{own_line, histories}
@@ -67,9 +63,7 @@ pub refuses : (old new : Kept) (result : Result (Unit {0}) WorldFault) (lines : 
     (who : ℕ) (verb : Verb) (fault : WorldFault)
     → result ≡ Err fault → (carried old.header lines who verb ≡ Err fault)
     ⊎ (fault ≡ Memory) → Carries old new result lines now who verb
-refuses old new result lines now who verb fault is why =
-    subst (λ (r : Result (Unit {0}) WorldFault). Carries old new r lines now who verb) (sym is)
-    (record { answer = why; are = tt; ends = tt })
+refuses old new result lines now who verb fault is why = rw is (record { answer = why; are = tt; ends = tt })
 
 -- so does one that tells that it can't happen
 pub refuses-absent : (old new : Kept) (lines : List Numbered) (now : Numbered) (who : ℕ) (verb : Verb)
@@ -83,8 +77,7 @@ pub refuses-as : (old new : Kept) (result : Result (Unit {0}) WorldFault) (lines
     → (can_happen old.header lines who verb ≡ false) × (fault ≡ Absent) → Carries old new result lines now who verb
 refuses-as old new result lines now who verb fault is why =
     let exit = err_from_is_err_and result is in
-    subst (λ (r : Result (Unit {0}) WorldFault). Carries old new r lines now who verb)
-    (sym (exit.1 ∙ ap Err (exit.2 ∙ why.1))) (refuses-absent old new lines now who verb why.0)
+    rw (exit.1 ∙ ap Err (exit.2 ∙ why.1)) (refuses-absent old new lines now who verb why.0)
 
 -- or that passes on why the television refuses what happens there
 pub refuses-played : (old new : Kept) (result : Result (Unit {0}) WorldFault) (lines : List Numbered)
@@ -150,9 +143,7 @@ pub session-played : {peer : ℕ} {events : List TvEvent} {e : TvEvent} {old new
     → HasNews peer events e old new → SessionCarries old live opened (told_to peer events) heard written received
     → SessionCarries new live opened (told_to peer (e ∷ events)) heard written received
 session-played {peer} {events} {e} {old} {new} {live} {opened} {heard} {written} {received} news carries =
-    subst (λ (s : Session). SessionCarries s live opened (told_to peer (e ∷ events)) heard written received)
-    (sym news.carried)
-    (told-more news.news (told_to peer (e ∷ events)) carries news.told)
+    rw news.carried (told-more news.news (told_to peer (e ∷ events)) carries news.told)
 
 -- a companion that stands for a history stands for it with such an entry too
 pub aside : (companion : Companion) (entry : Entry) (own : History) → IsAside entry own → companions.StandsFor companion
@@ -206,13 +197,11 @@ WhenGreeted k old new =
 -- what an open session gives
 given-text : (live : Bool) (next : Option (List ℕ)) (text : List ℕ) → cond live next None ≡ Some text
     → (live ≡ true) × (next ≡ Some text) × ((live && is_some next) ≡ true)
-given-text true next text is = (refl, is, ap is_some is)
-given-text false next text is = absurd (cc)
+given-text live next text is = grind (arith, is)
 
 -- what one gives that has no text
 no-text : (live : Bool) (next : Option (List ℕ)) → cond live next None ≡ None → (live && is_some next) ≡ false
-no-text true next is = ap is_some is
-no-text false next is = refl
+no-text live next is = grind (arith, is)
 
 module _ (header : Header) (lines : List Numbered) (who : ℕ) where
   -- ---- openings
@@ -264,10 +253,8 @@ module _ (header : Header) (lines : List Numbered) (who : ℕ) where
       let received = received_from peer events in
       let shut = opened-ok old.phase (is_open peer own) (was_opened peer own) old new stands.phase ok in
       let carries : SessionCarries old false false told heard written received =
-      subst (λ b. SessionCarries old b false told heard written received) shut.0
-      (subst (λ b. SessionCarries old (is_open peer own) b told heard written received) shut.1 stands) in
-      subst (λ (s : Session). SessionCarries s true true told heard written received) (sym shut.2)
-      (opened-now old told heard written received carries (untold header lines who k first accepted shut.1)
+      rw shut.0 at (rw shut.1 at stands) in
+      rw shut.2 (opened-now old told heard written received carries (untold header lines who k first accepted shut.1)
       (unwritten header lines who k first accepted shut.1))
 
   -- ---- ends
@@ -305,10 +292,8 @@ module _ (header : Header) (lines : List Numbered) (who : ℕ) where
       let written = written_to peer own in
       let received = received_from peer events in
       let live = closed-ok old.phase (is_open peer own) (was_opened peer own) new stands.phase ok in
-      let carries : SessionCarries old true (was_opened peer own) told heard written received =
-      subst (λ b. SessionCarries old b (was_opened peer own) told heard written received) live.0 stands in
-      subst (λ (s : Session). SessionCarries s false (was_opened peer own) told heard written received) (sym live.1)
-      (closed-now old (was_opened peer own) told heard written received carries (open_was peer own live.0))
+      let carries : SessionCarries old true (was_opened peer own) told heard written received = rw live.0 at stands in
+      rw live.1 (closed-now old (was_opened peer own) told heard written received carries (open_was peer own live.0))
 
   -- ---- texts
   -- a text that is taken out of a queue is the next one
@@ -395,12 +380,4 @@ pub session_as : (s : Session) (peer : ℕ) (events : List TvEvent) (own : Histo
     → is_open peer own ≡ live → was_opened peer own ≡ opened → heard_from peer own ≡ heard
     → written_to peer own ≡ written → received_from peer events ≡ received
     → SessionCarries s live opened (told_to peer events) heard written received → SessionStands peer events own s
-session_as s peer events own live opened heard written received a b c d e carries =
-    let told = told_to peer events in
-    subst (λ x. SessionCarries s x (was_opened peer own) told (heard_from peer own) (written_to peer own)
-    (received_from peer events)) (sym a)
-    (subst (λ x. SessionCarries s live x told (heard_from peer own) (written_to peer own) (received_from peer events))
-    (sym b)
-    (subst (λ x. SessionCarries s live opened told x (written_to peer own) (received_from peer events)) (sym c)
-    (subst (λ x. SessionCarries s live opened told heard x (received_from peer events)) (sym d)
-    (subst (λ x. SessionCarries s live opened told heard written x) (sym e) carries))))
+session_as s peer events own live opened heard written received a b c d e carries = rw (a, b, c, d, e) carries

@@ -1,10 +1,9 @@
 -- What the clocks say of a line: all watches are shown it, and the line's companion or the television reads its own.
-use Rattle.std.proofs.Common.{◌≡◌, ◌≢◌, ◌-◌, ◌&&◌, ◌||◌, ℕ, Bool, true, false, cond, List, [], ◌∷◌, length}
-use Rattle.std.proofs.Common.{arith, length-set, ne_eqb, refl, ap, sym, subst, ◌∙◌, inl, inr}
-use Rattle.std.specs.Prelude.{Option, Some, None, Result, Ok, Err, slice_set, is_none}
-use Rattle.std.specs.Option.{option_map, option_or}
+use Rattle.std.proofs.Common.{◌≡◌, ◌≢◌, ◌-◌, ◌&&◌, ◌||◌, ℕ, Bool, true, false, cond, List, [], ◌∷◌, length, arith}
+use Rattle.std.proofs.Common.{length-set, ne_eqb, refl, ap, sym, subst, ◌∙◌, inl, inr, Option, Some, None, Result, Ok}
+use Rattle.std.proofs.Common.{Err, slice_set, is_none, option_map, eq-eqb}
+use Rattle.std.specs.Option.{option_or}
 use Rattle.std.specs.Result.{result_and, result_map_both}
-use Rattle.std.proofs.lemmas.Bool.{eq-eqb}
 use Rattle.std.proofs.lemmas.Bool.Decides.{eqb_tells}
 use Rattle.css_model.specs.Numbers.{precision_ns}
 use Rattle.css_moments.specs.Drifts.{verdict}
@@ -14,8 +13,8 @@ use Rattle.css_schedule.specs.Owners.{is_sleep}
 use Rattle.css_schedule.specs.declared.header.Header.{Header}
 use Rattle.css_meaning.specs.declared.fault.WorldFault.{WorldFault}
 use Rattle.css_meaning.specs.declared.reading.Reading.{Reading}
-use Rattle.css_meaning.specs.Clocks.{Seen, last_reading, has_woken, read_verdict, reading_verdict}
-use Rattle.css_meaning.specs.Clocks.{shown_at, told_by, told_with, broken_by, clock_verdict}
+use Rattle.css_meaning.specs.Clocks.{Seen, last_reading, has_woken, read_verdict, reading_verdict, shown_at, told_by}
+use Rattle.css_meaning.specs.Clocks.{told_with, broken_by, clock_verdict}
 use Rattle.css_meaning.specs.Happened.{Numbered}
 use Rattle.css_meaning.specs.Numbering.{stored}
 use Rattle.css_meaning.specs.Verdicts.{tv_seen, own_seen, tv_reading, own_reading, seen_of_tv, seen_of, local_of}
@@ -163,8 +162,7 @@ pub read_own : (header : Header) (old new : Clocks) (shown lines : List Numbered
 read_own header old new shown lines now before after stand found none tv same own =
     let who = now.line.who in
     let within = stored_within old.own.items who before found in record {
-      tv = subst (λ (x : Watch). WatchStands header.tv_error (precision_ns header.tv_precision) (seen_of_tv shown)
-          (seen_of_tv (now ∷ lines)) x) (sym tv) (quiet_watch (tv_seen now) none refl stand.tv);
+      tv = rw tv (quiet_watch (tv_seen now) none refl stand.tv);
       count = ap (λ (xs : List Watch). length xs) same ∙ length-set old.own.items (who - 1) after ∙ stand.count;
       own = λ n x at.
           each_written (λ n x. WatchStands (local_of n header).error (local_of n header).precision

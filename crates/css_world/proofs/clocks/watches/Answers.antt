@@ -25,9 +25,8 @@ loop-companion-preserved c =
       count = ap (λ (xs : List Watch). length xs) c.in_ok-push.ensures.items
           ∙ counts_more before watch place so_far.count;
       within = omega (arith, c.loop-companion-test.true);
-      each = subst (Each IsNew c.args.companions.now) (sym c.in_ok-push.ensures.items)
-          (one_made IsNew c.args.companions.now before place declared watch so_far.count c.loop-companion-test.true
-          c.companion-item.is c.watch.ensures so_far.each);
+      each = rw c.in_ok-push.ensures.items (one_made IsNew c.args.companions.now before place declared watch
+          so_far.count c.loop-companion-test.true c.companion-item.is c.watch.ensures so_far.each);
     }
 
 pub returns : goal.returns

@@ -1,6 +1,5 @@
 -- The pieces of the line, one after the other.
-use Rattle.std.proofs.Common.{◌≡◌, ℕ, ℤ, List, [], ◌∷◌, ◌++◌, append_assoc, subst, to_z, of_z}
-use Rattle.std.specs.Prelude.{codes, decimal}
+use Rattle.std.proofs.Common.{◌≡◌, ℕ, ℤ, List, [], ◌∷◌, ◌++◌, append_assoc, to_z, of_z, codes, decimal}
 use Rattle.std.specs.Fmt.{signed_decimal}
 use Rattle.std.specs.Int.{w128}
 use Rattle.std.proofs.lemmas.Int.{to_z-of_z}
@@ -40,11 +39,9 @@ front g c =
     let lo : to_z w128 (of_z w128 c.args.lo) ≡ c.args.lo = to_z-of_z w128 c.args.lo c.ranges.lo in
     let hi : to_z w128 (of_z w128 c.args.hi) ≡ c.args.hi = to_z-of_z w128 c.args.hi c.ranges.hi in
     let two : c.add-2.new.out.items ≡ c.add.new.out.items ++ signed_decimal c.args.lo ++ codes " " =
-    subst (λ (z : ℤ). c.add-2.new.out.items ≡ c.add.new.out.items ++ signed_decimal z
-    ++ codes " ") lo c.in_ok-add-2.ensures.ok in
+    rw lo at c.in_ok-add-2.ensures.ok in
     let third : c.add-3.new.out.items ≡ c.add-2.new.out.items ++ signed_decimal c.args.hi ++ codes " at " =
-    subst (λ (z : ℤ). c.add-3.new.out.items ≡ c.add-2.new.out.items ++ signed_decimal z
-    ++ codes " at ") hi c.in_ok-add-3.ensures.ok in
+    rw hi at c.in_ok-add-3.ensures.ok in
     after_three before c.args.name.now c.add.new.out.items c.add-2.new.out.items c.add-3.new.out.items c.args.number
     c.args.lo c.args.hi c.in_ok-add.ensures.ok two third
 
@@ -53,8 +50,7 @@ returns-in_err-add-3-clause-err g c =
     let before : List ℕ = c.args.out.now.items in
     let lo : to_z w128 (of_z w128 c.args.lo) ≡ c.args.lo = to_z-of_z w128 c.args.lo c.ranges.lo in
     let two : c.add-2.new.out.items ≡ c.add.new.out.items ++ signed_decimal c.args.lo ++ codes " " =
-    subst (λ (z : ℤ). c.add-2.new.out.items ≡ c.add.new.out.items ++ signed_decimal z
-    ++ codes " ") lo c.in_ok-add-2.ensures.ok in
+    rw lo at c.in_ok-add-2.ensures.ok in
     at_err c.from_residual-in_err-add-3.result
     (begins before (decimal c.args.number ++ c.args.name.now ++ signed_decimal c.args.lo ++ codes " ")
     c.add-2.new.out.items c.add-3.new.out.items

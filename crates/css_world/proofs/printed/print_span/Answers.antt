@@ -1,6 +1,5 @@
 -- The line of the wall clock's span is a span's line.
-use Rattle.std.proofs.Common.{◌≡◌, ℕ, ℤ, List, ◌++◌, subst, to_z, of_z}
-use Rattle.std.specs.Prelude.{codes, decimal}
+use Rattle.std.proofs.Common.{◌≡◌, ℕ, ℤ, List, ◌++◌, to_z, of_z, codes, decimal}
 use Rattle.std.specs.Int.{w128}
 use Rattle.std.proofs.lemmas.Int.{to_z-of_z}
 use Rattle.css_meaning.specs.Printed.{ends_line, wall_line}
@@ -11,8 +10,7 @@ told : (before after : List ℕ) (number : ℕ) (lo hi : ℤ) (w : ℕ) (low hig
     → after ≡ before ++ ends_line number (codes " wall ") low high (decimal w)
     → after ≡ before ++ wall_line number (record { lo = lo; hi = hi }) w
 told before after number lo hi w low high a b written =
-    subst (λ (z : ℤ). after ≡ before ++ wall_line number (record { lo = z; hi = hi }) w) a
-    (subst (λ (z : ℤ). after ≡ before ++ wall_line number (record { lo = low; hi = z }) w) b written)
+    rw a at (rw b at written)
 
 pub returns-clause-ok : goal.returns-clause-ok
 returns-clause-ok c =

@@ -1,6 +1,5 @@
 -- The line of a report is a span's line.
-use Rattle.std.proofs.Common.{◌≡◌, ℕ, ℤ, List, ◌++◌, append_assoc, ap, ◌∙◌, subst, to_z, of_z}
-use Rattle.std.specs.Prelude.{Some, codes}
+use Rattle.std.proofs.Common.{◌≡◌, ℕ, ℤ, List, ◌++◌, append_assoc, ap, ◌∙◌, to_z, of_z, Some, codes}
 use Rattle.std.specs.Fmt.{signed_decimal}
 use Rattle.std.specs.Int.{w128}
 use Rattle.std.proofs.lemmas.Int.{to_z-of_z}
@@ -19,10 +18,7 @@ told : (before after : List ℕ) (number : ℕ) (lo hi position low high place :
     → place ≡ position → after ≡ before ++ ends_line number (codes " ticks ") low high (signed_decimal place)
     → after ≡ before ++ line_of number (Ticks lo hi) (Some position)
 told before after number lo hi position low high place a b d written =
-    subst (λ (z : ℤ). after ≡ before ++ line_of number (Ticks z hi) (Some position)) a
-    (subst (λ (z : ℤ). after ≡ before ++ line_of number (Ticks low z) (Some position)) b
-    (subst (λ (z : ℤ). after ≡ before ++ line_of number (Ticks low high) (Some z)) d
-    (written ∙ ap (λ line. before ++ line) (same_line number low high place))))
+    rw a at (rw b at (rw d at (written ∙ ap (λ line. before ++ line) (same_line number low high place))))
 
 pub returns-else-is_err-clause-ok : goal.returns-else-is_err-clause-ok
 returns-else-is_err-clause-ok c =

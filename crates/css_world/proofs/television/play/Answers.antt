@@ -16,8 +16,7 @@ returns-clause-played c = λ events stands fresh.
     let new = c.step.new.self.stage in
     let told : List TvOut = c.step.new.out.items in
     let done : tvs.IsAfterBy old new [] told (outcome_at c.args.event old) =
-    subst (λ (before : List TvOut). tvs.IsAfterBy old new before told (outcome_at c.args.event old))
-    c.new-told.ensures.items c.in_ok-step.ensures.outcome in
+    rw c.new-told.ensures.items at c.in_ok-step.ensures.outcome in
     let fresh_here = subst (λ (a : Addresses). tvs.IsFresh c.args.event (tvs.calls_of a events).sessions)
     (sym c.requires.addresses) fresh in
     let after = c.in_ok-step.ensures.stands events stands fresh_here in

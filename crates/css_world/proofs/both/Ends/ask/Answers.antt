@@ -1,7 +1,5 @@
 -- The companion stands for its history with the request, which is stored.
-use Rattle.std.proofs.Common.{refl, ap, subst, ◌∙◌, arith, List, ℕ, [], ◌∷◌, ◌++◌}
-use Rattle.css_model.specs.declared.Why.TheVariants as why
-use Rattle.css_model.specs.History.{Sent, Clock}
+use Rattle.std.proofs.Common.{refl, ap, ◌∙◌, arith, List, ℕ, [], ◌∷◌, ◌++◌}
 use Rattle.css_companion.specs.Standing as companions
 use Rattle.css_schedule.specs.declared.line.Verb.TheVariants.{Ask}
 use Rattle.css_meaning.specs.Happened.{peer, history_of}
@@ -35,10 +33,8 @@ returns-clause-carries c = λ header lines now own is ready may.
           (asked old lines now.number now.line.t now.line.w who now.line.l c.args.reading lane
           c.ask-request.new.self c.push.new.self.items c.push-2.new.self.items ready.ends c.requires.first
           c.requires.within found c.requires.range
-          (subst (λ (bytes : List ℕ). companions.StandsFor c.ask-request.new.self
-          (Sent peer bytes ∷ Clock why.Ask c.args.reading ∷ history_of who header lines))
-          c.ask-request.ensures.request
-          (c.ask-request.ensures.stands _ (history_of who header lines) peer (ready.ends.lanes who lane found).companion))
+          (rw c.ask-request.ensures.request at (c.ask-request.ensures.stands _ (history_of who header lines) peer
+          (ready.ends.lanes who lane found).companion))
           (c.in_ok-push.ensures.items
           ∙ ap (λ (bytes : List ℕ). old.requests ++ bytes ∷ []) c.ask-request.ensures.request)
           c.in_ok-push-2.ensures.items);

@@ -1,6 +1,5 @@
 -- A text of the television comes.
-use Rattle.std.proofs.Common.{refl, sym, ap, subst, ◌∙◌}
-use Rattle.std.specs.Prelude.{None}
+use Rattle.std.proofs.Common.{refl, sym, ap, subst, ◌∙◌, None}
 use Rattle.css_companion.specs.Standing.{Companion}
 use Rattle.css_companion.specs.Steps.{owed, IsEvent}
 use Rattle.css_schedule.specs.declared.line.Verb.TheVariants.{Bring}
@@ -8,7 +7,7 @@ use Rattle.css_meaning.specs.Happened.{events_of, history_of}
 use Rattle.css_world.specs.Lanes.{session_at, with_owed}
 use Rattle.css_world.specs.Standing.{Kept, kept}
 use Rattle.css_world.proofs.Carrying.{at_line}
-use Rattle.css_world.proofs.Verbs.{WhenAttended, wants, refuses-absent, carried-when, can-bring, cannot-bring}
+use Rattle.css_world.proofs.Verbs.{wants, refuses-absent, carried-when, can-bring, cannot-bring}
 use Rattle.css_world.proofs.AtSessions.{at_kind, owes-none, heard_event, brings}
 use Rattle.css_world.proofs.Owning.{same_lane, are_on, are_set, both_kept, refused_memory}
 use Rattle.css_world.proofs.both.Ends.bring.Goals as goal
@@ -80,6 +79,5 @@ returns-clause-carries c = λ header lines now own is ready may.
           (ap (owed between.companion) c.heard.ensures
           ∙ owes-none old lines 0 0 0 who 0 kind lane between c.in-Some.text c.requires.first
           ready.declared ready.accepted ready.ends found c.next_down.ensures.rest.companion can.1))
-          (subst (λ e. WhenAttended e between.companion c.attend.new.self.companion) c.heard.ensures
-          c.in_ok-attend.ensures.stands));
+          (rw c.heard.ensures at c.in_ok-attend.ensures.stands));
     }

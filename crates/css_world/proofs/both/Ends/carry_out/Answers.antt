@@ -1,12 +1,9 @@
 -- At `wall` and `print` what they tell is printed, and at any other line nothing.
-use Rattle.std.proofs.Common.{◌≡◌, ◌<◌, ◌^◌, ℕ, ℤ, pos, negsuc, arith, refl, ap, subst, FitsSigned}
-use Rattle.std.specs.Prelude.{unsigned_abs, Some, IfSome}
-use Rattle.std.specs.Int.{w64}
+use Rattle.std.proofs.Common.{◌≡◌, ◌<◌, ◌^◌, ℕ, ℤ, pos, negsuc, arith, refl, ap, subst, FitsSigned, w64, unsigned_abs}
+use Rattle.std.proofs.Common.{Some, IfSome}
 use Rattle.std.proofs.lemmas.Int.{to_z-of_z}
 use Rattle.css_tv.specs.declared.event.TvEvent.TheVariants as event
-use Rattle.css_schedule.specs.declared.line.Verb.TheVariants.{Ask, Take, Give, Land, Wall, Print, Programme}
-use Rattle.css_schedule.specs.declared.line.Verb.TheVariants.{Timeline, Viewer, Opening, Bring, Up, Present, Close}
-use Rattle.css_schedule.specs.declared.line.Verb.TheVariants.{Sleep}
+use Rattle.css_schedule.specs.declared.line.Verb.TheVariants.{Ask, Land, Wall, Print, Programme, Timeline, Viewer}
 use Rattle.css_schedule.specs.Ranges.{IsVerb}
 use Rattle.css_companion.specs.Printed.{line_of}
 use Rattle.css_meaning.specs.Happened.{Numbered}
@@ -99,43 +96,35 @@ sleep-requires-clause-first c = c.requires.of.own (ap is_own c.in-Sleep.is)
 pub returns-in-Ask-clause-prints : goal.returns-in-Ask-clause-prints
 returns-in-Ask-clause-prints c =
     prints_nothing c.args.self.now c.ask.new.self c.args.out.now.items c.ask.result
-    (record { number = c.args.number; line = c.args.line })
-    (Ask c.in-Ask.reading) c.in-Ask.is (λ header lines. refl) c.ask.ensures.carries
+    c.args.number c.args.line c.in-Ask.is (λ header lines. refl) c.ask.ensures.carries
 
 pub returns-in-Take-clause-prints : goal.returns-in-Take-clause-prints
 returns-in-Take-clause-prints c =
     prints_nothing c.args.self.now c.take.new.self c.args.out.now.items c.take.result
-    (record { number = c.args.number; line = c.args.line })
-    (Take c.in-Take.request c.in-Take.reading) c.in-Take.is (λ header lines. refl)
-    (c.take.ensures.carries c.args.line.who)
+    c.args.number c.args.line c.in-Take.is (λ header lines. refl) (c.take.ensures.carries c.args.line.who)
 
 pub returns-in-Give-clause-prints : goal.returns-in-Give-clause-prints
 returns-in-Give-clause-prints c =
     prints_nothing c.args.self.now c.give.new.self c.args.out.now.items c.give.result
-    (record { number = c.args.number; line = c.args.line })
-    (Give c.in-Give.take c.in-Give.reading) c.in-Give.is (λ header lines. refl) (c.give.ensures.carries c.args.line.who)
+    c.args.number c.args.line c.in-Give.is (λ header lines. refl) (c.give.ensures.carries c.args.line.who)
 
 pub returns-in-Land-clause-prints : goal.returns-in-Land-clause-prints
 returns-in-Land-clause-prints c =
     prints_nothing c.args.self.now c.land.new.self c.args.out.now.items c.land.result
-    (record { number = c.args.number; line = c.args.line })
-    (Land c.in-Land.datagram c.in-Land.reading) c.in-Land.is (λ header lines. refl) c.land.ensures.carries
+    c.args.number c.args.line c.in-Land.is (λ header lines. refl) c.land.ensures.carries
 
 pub returns-in-Programme-clause-prints : goal.returns-in-Programme-clause-prints
 returns-in-Programme-clause-prints c =
     prints_nothing c.args.self.now c.happen.new.self c.args.out.now.items c.happen.result
-    (record { number = c.args.number; line = c.args.line })
-    (Programme c.in-Programme.content_id) c.in-Programme.is
+    c.args.number c.args.line c.in-Programme.is
     (λ header lines. refl) (c.happen.ensures.carries c.args.line.who (Programme c.in-Programme.content_id) refl)
 
 pub returns-in-Timeline-clause-prints : goal.returns-in-Timeline-clause-prints
 returns-in-Timeline-clause-prints c =
     prints_nothing c.args.self.now c.happen-in-Timeline.new.self c.args.out.now.items c.happen-in-Timeline.result
-    (record { number = c.args.number; line = c.args.line })
-    (Timeline c.in-Timeline.programme c.in-Timeline.selector c.in-Timeline.rate c.in-Timeline.base) c.in-Timeline.is
-    (λ header lines. refl) (c.happen-in-Timeline.ensures.carries c.args.line.who
-    (Timeline c.in-Timeline.programme c.in-Timeline.selector
-    c.in-Timeline.rate c.in-Timeline.base)
+    c.args.number c.args.line c.in-Timeline.is (λ header lines. refl)
+    (c.happen-in-Timeline.ensures.carries c.args.line.who
+    (Timeline c.in-Timeline.programme c.in-Timeline.selector c.in-Timeline.rate c.in-Timeline.base)
     (ap (λ base. event.AddTimeline c.in-Timeline.programme c.in-Timeline.selector c.in-Timeline.rate base)
     (to_z-of_z w64 c.in-Timeline.base
     (base-fits c.in-Timeline.base (subst IsVerb c.in-Timeline.is c.requires.line.verb).base))))
@@ -143,47 +132,38 @@ returns-in-Timeline-clause-prints c =
 pub returns-in-Viewer-clause-prints : goal.returns-in-Viewer-clause-prints
 returns-in-Viewer-clause-prints c =
     prints_nothing c.args.self.now c.happen-in-Viewer.new.self c.args.out.now.items c.happen-in-Viewer.result
-    (record { number = c.args.number; line = c.args.line })
-    (Viewer c.in-Viewer.reading c.in-Viewer.command) c.in-Viewer.is
-    (λ header lines. refl) (c.happen-in-Viewer.ensures.carries c.args.line.who
-    (Viewer c.in-Viewer.reading c.in-Viewer.command)
-    refl)
+    c.args.number c.args.line c.in-Viewer.is (λ header lines. refl)
+    (c.happen-in-Viewer.ensures.carries c.args.line.who (Viewer c.in-Viewer.reading c.in-Viewer.command) refl)
 
 pub returns-in-Opening-clause-prints : goal.returns-in-Opening-clause-prints
 returns-in-Opening-clause-prints c =
     prints_nothing c.args.self.now c.open.new.self c.args.out.now.items c.open.result
-    (record { number = c.args.number; line = c.args.line })
-    (Opening c.in-Opening.kind) c.in-Opening.is (λ header lines. refl) c.open.ensures.carries
+    c.args.number c.args.line c.in-Opening.is (λ header lines. refl) c.open.ensures.carries
 
 pub returns-in-Bring-clause-prints : goal.returns-in-Bring-clause-prints
 returns-in-Bring-clause-prints c =
     prints_nothing c.args.self.now c.bring.new.self c.args.out.now.items c.bring.result
-    (record { number = c.args.number; line = c.args.line })
-    (Bring c.in-Bring.kind) c.in-Bring.is (λ header lines. refl) c.bring.ensures.carries
+    c.args.number c.args.line c.in-Bring.is (λ header lines. refl) c.bring.ensures.carries
 
 pub returns-in-Up-clause-prints : goal.returns-in-Up-clause-prints
 returns-in-Up-clause-prints c =
     prints_nothing c.args.self.now c.up.new.self c.args.out.now.items c.up.result
-    (record { number = c.args.number; line = c.args.line })
-    Up c.in-Up.is (λ header lines. refl) c.up.ensures.carries
+    c.args.number c.args.line c.in-Up.is (λ header lines. refl) c.up.ensures.carries
 
 pub returns-in-Present-clause-prints : goal.returns-in-Present-clause-prints
 returns-in-Present-clause-prints c =
     prints_nothing c.args.self.now c.present.new.self c.args.out.now.items c.present.result
-    (record { number = c.args.number; line = c.args.line })
-    (Present c.in-Present.earliest c.in-Present.latest) c.in-Present.is (λ header lines. refl) c.present.ensures.carries
+    c.args.number c.args.line c.in-Present.is (λ header lines. refl) c.present.ensures.carries
 
 pub returns-in-Close-clause-prints : goal.returns-in-Close-clause-prints
 returns-in-Close-clause-prints c =
     prints_nothing c.args.self.now c.close.new.self c.args.out.now.items c.close.result
-    (record { number = c.args.number; line = c.args.line })
-    (Close c.in-Close.kind) c.in-Close.is (λ header lines. refl) c.close.ensures.carries
+    c.args.number c.args.line c.in-Close.is (λ header lines. refl) c.close.ensures.carries
 
 pub returns-in-Sleep-clause-prints : goal.returns-in-Sleep-clause-prints
 returns-in-Sleep-clause-prints c =
     prints_nothing c.args.self.now c.sleep.new.self c.args.out.now.items c.sleep.result
-    (record { number = c.args.number; line = c.args.line })
-    Sleep c.in-Sleep.is (λ header lines. refl) c.sleep.ensures.carries
+    c.args.number c.args.line c.in-Sleep.is (λ header lines. refl) c.sleep.ensures.carries
 
 pub returns-in-Wall-clause-prints : goal.returns-in-Wall-clause-prints
 returns-in-Wall-clause-prints c = λ header lines ready may.

@@ -1,6 +1,7 @@
 -- A session closes at both ends.
-use Rattle.std.proofs.Common.{◌≡◌, ◌-◌, ℕ, refl, sym, ap, subst, ◌∙◌}
-use Rattle.std.specs.Prelude.{Some, None, slice_set, Ok, Result}
+use Rattle.css_world.proofs.Verbs.{WhenAttended}
+use Rattle.std.specs.Prelude.{slice_set}
+use Rattle.std.proofs.Common.{◌≡◌, ◌-◌, refl, sym, ap, subst, ◌∙◌, Some, None, Ok, Result, ℕ}
 use Rattle.css_tv.specs.declared.event.TvEvent.TheVariants as event
 use Rattle.css_companion.specs.Steps.{owed, IsEvent}
 use Rattle.css_schedule.specs.declared.line.Verb.TheVariants.{Close}
@@ -11,11 +12,10 @@ use Rattle.css_meaning.specs.Verdicts.{played}
 use Rattle.css_world.specs.Lanes.{session_at, with_owed}
 use Rattle.css_world.specs.Standing.{Kept, kept}
 use Rattle.css_world.proofs.Carrying.{at_line}
-use Rattle.css_world.proofs.Verbs.{WhenPlayed, WhenAttended, wants, refuses-as, refuses-played}
-use Rattle.css_world.proofs.Verbs.{carried-when, can-close, cannot-close}
+use Rattle.css_world.proofs.Verbs.{wants, refuses-as, refuses-played, carried-when, can-close, cannot-close, WhenPlayed}
 use Rattle.css_world.proofs.AtSessions.{at_kind, owes-nothing, closed_event, closes_at}
-use Rattle.css_world.proofs.Owning.{few_set, within_played, few_numbers, are_on, are_attended}
-use Rattle.css_world.proofs.Owning.{both_kept, refused_kept, refused_played, refused_memory}
+use Rattle.css_world.proofs.Owning.{few_set, within_played, few_numbers, are_on, are_attended, both_kept, refused_kept}
+use Rattle.css_world.proofs.Owning.{refused_played, refused_memory}
 use Rattle.css_world.proofs.both.Ends.close.Goals as goal
 
 pub returns-in_err-close-clause-carries : goal.returns-in_err-close-clause-carries

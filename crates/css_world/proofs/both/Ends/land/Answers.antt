@@ -1,7 +1,6 @@
 -- The companion stands for its history with the landing.
-use Rattle.std.proofs.Common.{◌≡◌, ◌⊎◌, sym, ap, subst, refl, ◌∙◌, arith, List, ℕ, true, cond}
+use Rattle.std.proofs.Common.{◌≡◌, sym, ap, refl, ◌∙◌, arith, List, ℕ, true, cond, ◌&&◌, Some, Result, Ok, Err}
 use Rattle.css_companion.specs.Standing as companions
-use Rattle.std.specs.Prelude.{◌&&◌, Some, None, Result, Ok, Err}
 use Rattle.css_schedule.specs.declared.line.Verb.TheVariants.{Land}
 use Rattle.css_meaning.specs.declared.fault.WorldFault.{WorldFault}
 use Rattle.css_meaning.specs.declared.fault.WorldFault.TheVariants.{Absent}
@@ -47,10 +46,7 @@ returns-in_default-clause-carries c = λ header lines now own is ready may.
     let old : Kept = kept header c.args.self.now in
     refuses-absent _ _ lines now c.args.who (Land c.args.datagram c.args.reading)
     (ap (λ b. b && true) (not_landing old lines c.args.who c.args.datagram ready.ends
-    (subst (λ (xs : List ℕ). (stored old.datagrams c.args.datagram ≡ None) ⊎ (stored xs c.args.datagram ≡ None))
-    c.deref-2.ensures.value
-    (subst (λ (xs : List (List ℕ)). (stored xs c.args.datagram ≡ None)
-    ⊎ (stored c.deref-2.result.now c.args.datagram ≡ None)) c.deref.ensures.value c.in_default.ensures.none))))
+    (rw c.deref-2.ensures.value at (rw c.deref.ensures.value at c.in_default.ensures.none))))
 
 pub returns-then-owner-who-clause-carries : goal.returns-then-owner-who-clause-carries
 returns-then-owner-who-clause-carries c = λ header lines now own is ready may.

@@ -1,6 +1,6 @@
 -- A session opens at both ends, and the companion writes its setup to a TS session.
-use Rattle.std.proofs.Common.{◌≡◌, ◌-◌, ℕ, refl, sym, ap, subst, ◌∙◌}
-use Rattle.std.specs.Prelude.{Some, slice_set, Ok, Result}
+use Rattle.std.specs.Prelude.{slice_set}
+use Rattle.std.proofs.Common.{◌≡◌, ◌-◌, refl, sym, ap, ◌∙◌, Some, Ok, Result, ℕ, subst}
 use Rattle.css_tv.specs.declared.event.TvEvent.TheVariants as event
 use Rattle.css_schedule.specs.declared.line.Verb.TheVariants.{Opening}
 use Rattle.css_meaning.specs.declared.fault.WorldFault.{WorldFault}
@@ -10,10 +10,10 @@ use Rattle.css_meaning.specs.Verdicts.{played}
 use Rattle.css_world.specs.Lanes.{session_at}
 use Rattle.css_world.specs.Standing.{Kept, kept}
 use Rattle.css_world.proofs.Carrying.{at_line}
-use Rattle.css_world.proofs.Verbs.{WhenPlayed, wants, refuses-as, refuses-played, carried-when, can-open, cannot-open}
+use Rattle.css_world.proofs.Verbs.{wants, refuses-as, refuses-played, carried-when, can-open, cannot-open, WhenPlayed}
 use Rattle.css_world.proofs.AtSessions.{at_kind, no-session, opens_at}
-use Rattle.css_world.proofs.Owning.{few_set, within_played, few_numbers, are_on, are_attended}
-use Rattle.css_world.proofs.Owning.{both_kept, refused_kept, refused_played, refused_memory}
+use Rattle.css_world.proofs.Owning.{few_set, within_played, few_numbers, are_on, are_attended, both_kept, refused_kept}
+use Rattle.css_world.proofs.Owning.{refused_played, refused_memory}
 use Rattle.css_world.proofs.both.Ends.open.Goals as goal
 
 pub returns-in_err-open-clause-carries : goal.returns-in_err-open-clause-carries

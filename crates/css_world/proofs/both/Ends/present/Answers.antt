@@ -1,6 +1,5 @@
 -- The companion writes a presentation.
-use Rattle.std.proofs.Common.{◌≡◌, rules, refl}
-use Rattle.std.specs.Prelude.{Some}
+use Rattle.std.proofs.Common.{◌≡◌, rules, refl, Some}
 use Rattle.css_tsmsg.specs.Presentations.{presentation_text}
 use Rattle.css_companion.specs.Steps.{window}
 use Rattle.css_schedule.specs.declared.line.Verb.TheVariants.{Present}

@@ -1,9 +1,8 @@
 -- The request that is stored is read back, and its ticket is stored.
-use Rattle.std.proofs.Common.{◌≡◌, ◌⊎◌, inl, inr, refl, sym, ap, subst, ◌∙◌, true, false, cond, List, ℕ, [], ◌∷◌, ◌++◌}
+use Rattle.std.proofs.Common.{◌≡◌, ◌⊎◌, inl, inr, refl, sym, ap, ◌∙◌, true, false, cond, List, ℕ, [], ◌∷◌, ◌++◌}
 use Rattle.std.specs.Prelude.{◌&&◌, Some, None, is_some, Result, Ok, Err}
 use Rattle.css_model.specs.Wire.{stamp_of}
 use Rattle.css_server.specs.Tickets.{Ticket, ticket_for}
-use Rattle.css_server.specs.Exchanges as servers
 use Rattle.css_schedule.specs.declared.line.Verb.TheVariants.{Take}
 use Rattle.css_meaning.specs.declared.fault.WorldFault.{WorldFault}
 use Rattle.css_meaning.specs.declared.fault.WorldFault.TheVariants.{Absent}
@@ -54,10 +53,7 @@ returns-in_default-clause-carries c = λ who header lines now own is ready may.
     refuses-absent _ _ lines now who (Take c.args.request c.args.reading)
     (none-sent old lines who c.args.request c.args.reading ready.ends
     (not_stored old lines c.args.request ready.ends
-    (subst (λ (xs : List ℕ). (stored old.requests c.args.request ≡ None) ⊎ (stored xs c.args.request ≡ None))
-    c.deref-2.ensures.value
-    (subst (λ (xs : List (List ℕ)). (stored xs c.args.request ≡ None)
-    ⊎ (stored c.deref-2.result.now c.args.request ≡ None)) c.deref.ensures.value c.in_default.ensures.none))))
+    (rw c.deref-2.ensures.value at (rw c.deref.ensures.value at c.in_default.ensures.none))))
 
 pub returns-in_err-take-clause-carries : goal.returns-in_err-take-clause-carries
 returns-in_err-take-clause-carries c = λ who header lines now own is ready may.
@@ -94,8 +90,7 @@ returns-clause-carries c = λ who header lines now own is ready may.
       ends = at_line _ lines now who (Take c.args.request c.args.reading) own is
           (taken old lines now.number now.line.t now.line.w who now.line.l c.args.request c.args.reading sent.0
           c.in-Some.asker c.take.new.self c.push.new.self.items ready.ends sent.1 asker c.take.ensures.stage
-          (subst (λ (ticket : Ticket). servers.StandsFor c.take.new.self.tv.server (ticket ∷ before)) same
-          (c.in_ok-take.ensures.stands sent.0 before sent.2 ready.ends.server))
+          (rw same at (c.in_ok-take.ensures.stands sent.0 before sent.2 ready.ends.server))
           (c.in_ok-take.ensures.takes sent.0 sent.2
           ∙ ap (λ (ticket : Ticket). old.tv.takes.items ++ Some ticket ∷ []) same) c.in_ok-push.ensures.items);
     }

@@ -1,6 +1,6 @@
 -- A text of the companion comes to the television.
-use Rattle.std.proofs.Common.{◌≡◌, ◌-◌, ℕ, refl, sym, ap, subst, ◌∙◌}
-use Rattle.std.specs.Prelude.{Some, slice_set, Ok, Result}
+use Rattle.css_world.proofs.Verbs.{WhenPlayed}
+use Rattle.std.proofs.Common.{◌≡◌, ◌-◌, refl, sym, ap, ◌∙◌, Some, slice_set, Ok, Result, ℕ, subst}
 use Rattle.css_tv.specs.declared.event.TvEvent.TheVariants as event
 use Rattle.css_schedule.specs.declared.line.Verb.TheVariants.{Up}
 use Rattle.css_meaning.specs.declared.fault.WorldFault.{WorldFault}
@@ -10,8 +10,7 @@ use Rattle.css_meaning.proofs.Peers.{ts_of}
 use Rattle.css_world.specs.Flights.{first_in}
 use Rattle.css_world.specs.Standing.{Kept, kept}
 use Rattle.css_world.proofs.Carrying.{at_line}
-use Rattle.css_world.proofs.Verbs.{WhenPlayed, refuses-absent, refuses-played, carried-when}
-use Rattle.css_world.proofs.Verbs.{can-raise, cannot-raise, up-event}
+use Rattle.css_world.proofs.Verbs.{refuses-absent, refuses-played, carried-when, can-raise, cannot-raise, up-event}
 use Rattle.css_world.proofs.AtSessions.{raises}
 use Rattle.css_world.proofs.Owning.{few_set, few_numbers, same_lane, are_on, are_set, are_played, both_kept}
 use Rattle.css_world.proofs.Owning.{refused_played}

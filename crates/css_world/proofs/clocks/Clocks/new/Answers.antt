@@ -1,14 +1,11 @@
 -- Nothing was shown yet, and nothing was read.
-use Rattle.std.proofs.Common.{rules, subst, ◌∙◌, List}
-use Rattle.css_schedule.specs.declared.header.CompanionLine.{CompanionLine}
-use Rattle.css_world.specs.Standing.{AreNew}
+use Rattle.std.proofs.Common.{rules, ◌∙◌}
 use Rattle.css_world.proofs.Began.{new_watch}
 use Rattle.css_world.proofs.clocks.Clocks.new.Goals as goal
 
 pub returns : goal.returns
 returns c =
-    let own = subst (λ (companions : List CompanionLine). AreNew companions c.in_ok-watches.field-0.items)
-    (c.deref.ensures.value ∙ c.list.ensures) c.in_ok-watches.ensures in
+    let own = rw (c.deref.ensures.value ∙ c.list.ensures) at c.in_ok-watches.ensures in
     record {
       tv = record {
         error = c.new.ensures.drift.0;

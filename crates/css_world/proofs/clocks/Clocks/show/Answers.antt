@@ -1,6 +1,5 @@
 -- The line is shown to the wall clock, and to the clock of its companion.
-use Rattle.std.proofs.Common.{◌<◌, ◌-◌, ◌∷◌, length-set, refl, ap, sym, subst, ◌∙◌}
-use Rattle.std.specs.Prelude.{Err}
+use Rattle.std.proofs.Common.{◌<◌, ◌-◌, ◌∷◌, length-set, refl, ap, sym, subst, ◌∙◌, Err}
 use Rattle.std.specs.Option.{ForSome}
 use Rattle.std.proofs.lemmas.Result.{err_from_is_err_and}
 use Rattle.css_meaning.specs.Clocks.{told_by, told_with}

@@ -1,5 +1,4 @@
-use Rattle.std.proofs.Common.{refl}
-use Rattle.std.specs.Prelude.{Some}
+use Rattle.std.proofs.Common.{refl, Some}
 use Rattle.css_tsmsg.specs.Setups.{setup_text}
 use Rattle.css_world.proofs.lane.Lane.greet.Goals as goal
 

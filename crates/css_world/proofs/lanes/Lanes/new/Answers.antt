@@ -32,9 +32,8 @@ loop-companion-preserved c =
       count = ap (λ (xs : List Lane). length xs) c.in_ok-push.ensures.items
           ∙ counts_more before lane place so_far.count;
       within = omega (arith, c.loop-companion-test.true);
-      each = subst (Each IsFresh c.args.companions.now) (sym c.in_ok-push.ensures.items)
-          (one_made IsFresh c.args.companions.now before place declared lane so_far.count c.loop-companion-test.true
-          c.companion-item.is c.in_ok-lane.ensures so_far.each);
+      each = rw c.in_ok-push.ensures.items (one_made IsFresh c.args.companions.now before place declared lane
+          so_far.count c.loop-companion-test.true c.companion-item.is c.in_ok-lane.ensures so_far.each);
     }
 
 pub returns : goal.returns

@@ -1,13 +1,11 @@
 -- A line that was shown, read and carried out is one more.
-use Rattle.std.proofs.Common.{◌∷◌, ℕ, refl, sym, ap, subst, ◌∙◌}
-use Rattle.std.specs.Prelude.{Err}
+use Rattle.css_world.specs.Standing.{World, Means, TellsTruth}
+use Rattle.std.proofs.Common.{◌∷◌, ℕ, refl, sym, ap, ◌∙◌, Err, subst}
 use Rattle.std.specs.Result.{result_and}
 use Rattle.std.proofs.lemmas.Result.{err_from_is_err_and}
 use Rattle.css_schedule.specs.declared.line.Line.{Line}
 use Rattle.css_meaning.specs.Happened.{Numbered}
 use Rattle.css_meaning.specs.Verdicts.{reading_tested}
-use Rattle.css_world.specs.Standing.{World, Means, GoesOn}
-use Rattle.css_world.specs.Standing.{TellsTruth}
 use Rattle.css_world.proofs.Going.{Steps, world_as, lines_next, means_fault, not_ok, may_take, stood, is_second}
 use Rattle.css_world.proofs.Going.{line_answers, line_stands, line_true}
 use Rattle.css_world.proofs.world.World.line.Goals as goal
@@ -106,9 +104,7 @@ returns-clause-answers c =
     (numbered c.args.number c.args.line)) c.self.view_is (line_answers c.carry_out.result (steps c))
 
 pub returns-clause-stands : goal.returns-clause-stands
-returns-clause-stands c =
-    subst (λ (w : World). GoesOn w (world_as c.self.inside.header c.read.new.self c.carry_out.new.self)
-    c.carry_out.result (numbered c.args.number c.args.line)) c.self.view_is (line_stands c.carry_out.result (steps c))
+returns-clause-stands c = rw c.self.view_is at (line_stands c.carry_out.result (steps c))
 
 pub returns-clause-truth : goal.returns-clause-truth
 returns-clause-truth c =

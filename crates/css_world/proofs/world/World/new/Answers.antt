@@ -1,7 +1,5 @@
 -- Both ends did nothing yet, and nothing is stored.
-use Rattle.std.proofs.Common.{rules, ◌∙◌, subst, List}
-use Rattle.css_schedule.specs.declared.header.CompanionLine.{CompanionLine}
-use Rattle.css_world.specs.Lanes.{AreFresh}
+use Rattle.std.proofs.Common.{rules, ◌∙◌}
 use Rattle.css_world.proofs.Began.{begun_ready}
 use Rattle.css_world.proofs.world.World.new.Goals as goal
 
@@ -19,8 +17,7 @@ returns-clause-stands c = record {
       stands = c.in_ok-new-2.ensures.stands;
       takes = c.in_ok-new-2.ensures.takes;
     };
-    lanes = subst (λ (companions : List CompanionLine). AreFresh companions c.in_ok-new.field-0.list.items)
-        (c.deref.ensures.value ∙ c.list.ensures) c.in_ok-new.ensures;
+    lanes = rw (c.deref.ensures.value ∙ c.list.ensures) at c.in_ok-new.ensures;
     requests = c.new-4.ensures.items;
     askers = c.new-5.ensures.items;
     taken_for = c.new-6.ensures.items;
