@@ -1,6 +1,5 @@
 -- Generated lines are of version 1: each is of companion 1, and none is a sleep.
-use Rattle.std.proofs.Common.{◌≡◌, ℕ, arith, refl, Bool, true, false}
-use Rattle.std.specs.Prelude.{nat_lt, if◌then◌else◌}
+use Rattle.std.proofs.Common.{◌≡◌, ℕ, arith, refl, Bool, true, false, nat_lt, if◌then◌else◌}
 use Rattle.css_schedule.specs.declared.line.Verb.{Verb}
 use Rattle.css_schedule.specs.Owners.{is_sleep}
 use Rattle.css_schedule.specs.Ranges.{IsFirst}

@@ -2,8 +2,7 @@
 use Rattle.std.proofs.Common.{ℕ, suc, zero, ◌*◌, ◌≤◌, arith}
 use Rattle.std.proofs.lemmas.Bool.Decides.{nat_tests}
 use Rattle.css_gen.specs.Draws.{draw}
-use Rattle.css_gen.specs.Course.{chosen}
-use Rattle.css_gen.specs.Course.{started, later, happening, course_after}
+use Rattle.css_gen.specs.Course.{chosen, started, later, happening, course_after}
 use Rattle.css_gen.specs.Bounds.{IsWithin, IsSmall}
 use Rattle.css_gen.specs.declared.course.Course.{Course}
 use Rattle.css_gen.proofs.Draws.{draw-below}

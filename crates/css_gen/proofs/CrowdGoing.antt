@@ -1,8 +1,7 @@
 -- What a generator gives next, of one companion or of several, and the crowd after it.
-use Rattle.std.proofs.Common.{◌≡◌, ℕ, suc, zero, ◌+◌, ◌-◌, ◌<◌, ◌≤◌, arith, ap, sym, subst, ◌∙◌, refl}
-use Rattle.std.proofs.Common.{Bool, true, false, List}
-use Rattle.std.specs.Prelude.{◌==◌, nat_le, if◌then◌else◌, Option, Some, None}
-use Rattle.std.proofs.lemmas.Bool.{lt-ltb, leb-true, leb-false, eqb-true}
+use Rattle.std.proofs.Common.{◌≡◌, ℕ, suc, zero, ◌+◌, ◌-◌, ◌<◌, ◌≤◌, arith, ap, sym, subst, ◌∙◌, refl, Bool, true}
+use Rattle.std.proofs.Common.{false, List, lt-ltb, leb-true, leb-false, eqb-true, ◌==◌, nat_le, if◌then◌else◌, Option}
+use Rattle.std.proofs.Common.{Some, None}
 use Rattle.css_gen.specs.Bounds.{IsSmall}
 use Rattle.css_gen.specs.Course.{course_after}
 use Rattle.css_gen.specs.Crowd.{tuned, gathered, crowd_after, next_crowd}

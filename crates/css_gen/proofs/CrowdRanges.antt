@@ -1,8 +1,7 @@
 -- Each line of several companions is in the ranges of a schedule's lines, and is one of version 2.
-use Rattle.std.proofs.Common.{◌≡◌, ℕ, suc, zero, ◌+◌, ◌*◌, ◌/◌, ◌%◌, ◌<◌, ◌≤◌, arith, refl}
-use Rattle.std.proofs.Common.{Bool, true, false, List, ◌∷◌, length}
-use Rattle.std.specs.Prelude.{◌==◌, nat_lt, min, if◌then◌else◌, slice_index}
-use Rattle.std.proofs.lemmas.Bool.{eqb-false, ltb-true, ltb-false}
+use Rattle.std.proofs.Common.{◌≡◌, ℕ, suc, zero, ◌+◌, ◌*◌, ◌/◌, ◌%◌, ◌<◌, ◌≤◌, arith, refl, Bool, true, false, List}
+use Rattle.std.proofs.Common.{◌∷◌, length, ltb-true, ltb-false, ◌==◌, nat_lt, min, if◌then◌else◌, slice_index}
+use Rattle.std.proofs.lemmas.Bool.{eqb-false}
 use Rattle.css_model.specs.declared.TheConstants.{LIMIT}
 use Rattle.css_schedule.specs.declared.line.Verb.{Verb}
 use Rattle.css_schedule.specs.Owners.{is_own}

@@ -1,13 +1,11 @@
 -- What a crowd keeps from line to line: its numbers are small, and it knows who sent what.
-use Rattle.std.proofs.Common.{◌≡◌, ℕ, suc, zero, ◌+◌, ◌≤◌, arith, sym, subst, ◌∙◌, refl}
-use Rattle.std.proofs.Common.{List, [], ◌∷◌, ◌++◌, length}
+use Rattle.std.proofs.Common.{◌≡◌, ℕ, suc, zero, ◌+◌, ◌≤◌, arith, sym, subst, ◌∙◌, refl, List, [], ◌∷◌, ◌++◌, length}
 use Rattle.std.proofs.lemmas.List.{length-append}
 use Rattle.css_gen.specs.Draws.{draw}
 use Rattle.css_gen.specs.Bounds.{IsWithin}
-use Rattle.css_gen.specs.Course.{Happening}
-use Rattle.css_gen.specs.Course.{chosen, started, later}
-use Rattle.css_gen.specs.Crowd.{gathered, turn, datagrams, chosen_of, happening_of}
-use Rattle.css_gen.specs.Crowd.{senders_after, askers_after, next_line_of, next_crowd, crowd_after}
+use Rattle.css_gen.specs.Course.{Happening, chosen, started, later}
+use Rattle.css_gen.specs.Crowd.{gathered, turn, datagrams, chosen_of, happening_of, senders_after, askers_after}
+use Rattle.css_gen.specs.Crowd.{next_line_of, next_crowd, crowd_after}
 use Rattle.css_gen.specs.Standing.{AreSome, IsReady, CanTurn, IsKnown}
 use Rattle.css_gen.specs.declared.course.Course.{Course}
 use Rattle.css_gen.specs.declared.crowd.Crowd.{Crowd}

@@ -1,7 +1,6 @@
 -- What a generator of one companion gives next, and the course after it.
-use Rattle.std.proofs.Common.{◌≡◌, ℕ, suc, ◌+◌, ◌-◌, arith, ap, ◌∙◌, refl, Bool, true, false}
-use Rattle.std.specs.Prelude.{nat_lt, if◌then◌else◌}
-use Rattle.std.proofs.lemmas.Bool.{ltb-true, ltb-false}
+use Rattle.std.proofs.Common.{◌≡◌, ℕ, suc, ◌+◌, ◌-◌, arith, ap, ◌∙◌, refl, Bool, true, false, ltb-true, ltb-false}
+use Rattle.std.proofs.Common.{nat_lt, if◌then◌else◌}
 use Rattle.css_gen.specs.Course.{next_course, course_after}
 use Rattle.css_gen.specs.Generated.{text_from, text_numbered}
 use Rattle.css_gen.specs.Standing.{course_from}

@@ -1,8 +1,6 @@
 -- The datagrams that answer a companion's requests, from the last take on.
-use Rattle.std.proofs.Common.{◌≡◌, ℕ, suc, zero, ◌+◌, ◌-◌, ◌*◌, ◌<◌, ◌≤◌, arith, ap, sym, ◌∙◌, refl, List, ◌∷◌}
-use Rattle.std.proofs.Common.{length, Bool, ne_eqb}
-use Rattle.std.specs.Prelude.{if◌then◌else◌, slice_index}
-use Rattle.std.proofs.lemmas.Bool.{eq-eqb}
+use Rattle.std.proofs.Common.{◌≡◌, ℕ, suc, zero, ◌+◌, ◌-◌, ◌*◌, ◌<◌, ◌≤◌, arith, ap, sym, ◌∙◌, refl, List, ◌∷◌, length}
+use Rattle.std.proofs.Common.{Bool, ne_eqb, eq-eqb, if◌then◌else◌, slice_index}
 use Rattle.css_gen.specs.Crowd.{datagrams}
 
 -- where the last take is the companion's, its answer makes two more

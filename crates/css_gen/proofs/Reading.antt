@@ -1,6 +1,5 @@
 -- What is written of generated lines is read as these lines.
-use Rattle.std.proofs.Common.{◌≡◌, ℕ, ◌≤◌, ap, arith, refl, cond, []}
-use Rattle.std.proofs.lemmas.Bool.{ne_eqb}
+use Rattle.std.proofs.Common.{◌≡◌, ℕ, ◌≤◌, ap, arith, refl, cond, [], ne_eqb}
 use Rattle.std.proofs.lemmas.Int.{ints}
 use Rattle.std.proofs.lemmas.List.Elements.{All-nil, All-cons}
 use Rattle.css_printed.specs.Printed.{header_text, line_text}

@@ -1,6 +1,5 @@
 -- The first lines of a schedule of several companions as texts.
-use Rattle.std.proofs.Common.{◌≡◌, ℕ, refl, sym, [], ◌∷◌, ◌++◌}
-use Rattle.std.specs.Prelude.{codes, decimal}
+use Rattle.std.proofs.Common.{◌≡◌, ℕ, refl, sym, [], ◌∷◌, ◌++◌, codes, decimal}
 use Rattle.std.specs.Fmt.{digits}
 use Rattle.css_printed.proofs.Spaced.{with_words-after}
 use Rattle.css_gen.specs.Opening.{pts}

@@ -1,6 +1,5 @@
 -- The oscillators of one companion more, and the first course of a crowd.
-use Rattle.std.proofs.Common.{◌≡◌, ℕ, suc, ◌+◌, arith, ap, sym, ◌∙◌}
-use Rattle.std.specs.Prelude.{◌==◌, slice_set}
+use Rattle.std.proofs.Common.{◌≡◌, ℕ, suc, ◌+◌, arith, ap, sym, ◌∙◌, ◌==◌, slice_set}
 use Rattle.css_gen.specs.Draws.{draw}
 use Rattle.css_gen.specs.Crowd.{Tuned, tuned}
 use Rattle.css_gen.specs.declared.course.Course.{Course}

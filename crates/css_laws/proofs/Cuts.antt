@@ -1,9 +1,7 @@
 -- A text with words is its first word, a space, and the other words.
-use Rattle.std.proofs.Common.{◌≡◌, ℕ, ◌+◌, ◌<◌, arith, ap, ◌∙◌, Bool, true, false, cond, ltb, List, ◌∷◌, ◌++◌}
-use Rattle.std.proofs.Common.{length, refl, All}
-use Rattle.std.specs.Prelude.{Some, None}
+use Rattle.std.proofs.Common.{◌≡◌, ℕ, ◌+◌, ◌<◌, arith, ap, ◌∙◌, Bool, true, false, cond, ltb, List, ◌∷◌, ◌++◌, length}
+use Rattle.std.proofs.Common.{refl, All, Some, None, ltb-true, eqb-true}
 use Rattle.std.specs.List.{position_or_len}
-use Rattle.std.proofs.lemmas.Bool.{ltb-true, eqb-true}
 use Rattle.std.proofs.lemmas.List.{get_or-take, length-append, length-take}
 use Rattle.std.proofs.lemmas.List.Splits.{slice_split_first}
 use Rattle.std.proofs.lemmas.List.Sums.{fails_before_first, passes_at_first, split_at_first}

@@ -1,10 +1,9 @@
 -- The texts of a generated schedule are short, and no line feed stands in them.
 use Rattle.std.proofs.Common.{◌≡◌, ℕ, suc, ◌+◌, ◌-◌, ◌*◌, ◌^◌, ◌<◌, ◌≤◌, arith, subst, sym, refl, Bool, true, false}
-use Rattle.std.proofs.Common.{rules, List, [], ◌∷◌, ◌++◌, length}
-use Rattle.std.specs.Prelude.{◌==◌, ◌&&◌, not, nat_le, pos, negsuc, codes, decimal, if◌then◌else◌}
+use Rattle.std.proofs.Common.{rules, List, [], ◌∷◌, ◌++◌, length, ◌==◌, ◌&&◌, not, nat_le, pos, negsuc, codes, decimal}
+use Rattle.std.proofs.Common.{if◌then◌else◌, leb-true, eqb-true}
 use Rattle.std.specs.Fmt.{digits}
 use Rattle.std.specs.List.{list_all}
-use Rattle.std.proofs.lemmas.Bool.{leb-true, eqb-true}
 use Rattle.std.proofs.lemmas.Bool.Decides.{nat_tests}
 use Rattle.std.proofs.lemmas.Fmt.{length-decimal-le}
 use Rattle.std.proofs.lemmas.List.{length-append}
@@ -20,9 +19,8 @@ use Rattle.css_schedule.specs.Words.{with_words}
 use Rattle.css_schedule.specs.Ranges.{IsVerb, IsLine}
 use Rattle.css_schedule.specs.declared.line.Line.{Line}
 use Rattle.css_schedule.specs.declared.line.Verb.{Verb}
-use Rattle.css_schedule.specs.declared.line.Verb.TheVariants.{Ask, Wall}
-use Rattle.css_schedule.specs.declared.line.Verb.TheVariants.{Programme, Timeline, Viewer}
-use Rattle.css_schedule.specs.declared.line.Verb.TheVariants.{Up, Present, Sleep}
+use Rattle.css_schedule.specs.declared.line.Verb.TheVariants.{Ask, Wall, Programme, Timeline, Viewer, Up, Present}
+use Rattle.css_schedule.specs.declared.line.Verb.TheVariants.{Sleep}
 use Rattle.css_printed.proofs.Spaced.{line-free, decimal-solid}
 use Rattle.css_printed.specs.Printed.{kind_word, verb_words, clock_words, line_text_in, header_text, companion_words}
 use Rattle.css_printed.specs.Printed.{declared_words}

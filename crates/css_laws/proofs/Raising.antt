@@ -18,9 +18,8 @@ use Rattle.css_meaning.specs.declared.fault.WorldFault.{WorldFault}
 use Rattle.css_meaning.specs.declared.fault.WorldFault.TheVariants.{Absent, Player}
 use Rattle.css_meaning.specs.Sessions.{setup_of}
 use Rattle.css_meaning.specs.Happened.{Numbered, event_by, Ends, ends_of}
-use Rattle.css_meaning.specs.Verdicts.{local_of}
-use Rattle.css_meaning.specs.Verdicts.{tested, can_exchange}
-use Rattle.css_meaning.specs.Verdicts.{can_talk, refused_by, outcome_after, played, printed_for}
+use Rattle.css_meaning.specs.Verdicts.{local_of, tested, can_exchange, can_talk, refused_by, outcome_after, played}
+use Rattle.css_meaning.specs.Verdicts.{printed_for}
 use Rattle.css_laws.specs.Numbers.{raised_line, raised_lines, raised_fault, Said, Nothing, Span, Reported, said_text}
 use Rattle.css_laws.specs.Numbers.{NumbersDontMatter}
 use Rattle.css_laws.proofs.Readings.{raised_test, both-raised, requests-raised, tickets-raised, made_for-raised}

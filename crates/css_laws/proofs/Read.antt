@@ -1,8 +1,7 @@
 -- Words that are read are read again where other words follow, and a line of version 1 is read with its companion's
 -- number in it.
-use Rattle.std.proofs.Common.{◌≡◌, ℕ, ◌<◌, arith, ap, sym, ◌∙◌, refl, Bool, true, false, List, [], ◌∷◌}
-use Rattle.std.specs.Prelude.{if◌then◌else◌, Some, None, Result, Ok, Err, IfOk, bytes_eq, codes}
-use Rattle.std.proofs.lemmas.Bool.{lt-ltb}
+use Rattle.std.proofs.Common.{◌≡◌, ℕ, ◌<◌, arith, ap, sym, ◌∙◌, refl, Bool, true, false, List, [], ◌∷◌, if◌then◌else◌}
+use Rattle.std.proofs.Common.{Some, None, Result, Ok, Err, IfOk, bytes_eq, codes, lt-ltb}
 use Rattle.std.proofs.lemmas.Slice.Eq.{bytes_eq-Decides}
 use Rattle.css_num.specs.Words.{whole_number_of}
 use Rattle.css_model.specs.declared.TheConstants.{LIMIT}

@@ -1,8 +1,6 @@
 -- The words of a header of version 1 are read as those of one of version 2 and of its companion.
-use Rattle.std.proofs.Common.{◌≡◌, ℕ, ◌≤◌, length, ◌+◌, arith, ap, ◌∙◌, refl, Bool, true, false, List, [], ◌∷◌}
-use Rattle.std.specs.Prelude.{if◌then◌else◌, ℤ, int_lt, pos, negsuc, Option, Some, None, Result, Ok, Err, IfOk}
-use Rattle.std.specs.Prelude.{bytes_eq}
-use Rattle.std.specs.Prelude.{codes}
+use Rattle.std.proofs.Common.{◌≡◌, length, arith, false, if◌then◌else◌, int_lt, negsuc, Option, Result, bytes_eq, codes}
+use Rattle.std.proofs.Common.{ℕ, ◌≤◌, ◌+◌, ap, ◌∙◌, refl, Bool, true, List, [], ◌∷◌, ℤ, pos, Some, None, Ok, Err, IfOk}
 use Rattle.std.proofs.lemmas.Slice.Eq.{bytes_eq-Decides}
 use Rattle.css_num.specs.Words.{signed_number_of}
 use Rattle.css_model.specs.Numbers.{max_error}
@@ -16,9 +14,8 @@ use Rattle.css_schedule.specs.declared.header.Start.TheVariants.{One, Two}
 use Rattle.css_schedule.specs.Words.{words_of, ◌>>=◌, At, or_form, word_at, number_at, integer_at, signed_at}
 use Rattle.css_schedule.specs.Words.{after_word, all_read}
 use Rattle.css_schedule.specs.Headers.{mode_of, mode_at, declared_at, local_at, companion_of_words, count_at}
-use Rattle.css_schedule.specs.Headers.{header_with}
-use Rattle.css_schedule.specs.Headers.{first_of_words, second_of_words, start_of, header_of_words, after_number}
-use Rattle.css_schedule.specs.Headers.{numbered_of_words, with_companion}
+use Rattle.css_schedule.specs.Headers.{header_with, first_of_words, second_of_words, start_of, header_of_words}
+use Rattle.css_schedule.specs.Headers.{after_number, numbered_of_words, with_companion}
 use Rattle.css_laws.proofs.Read.{IsWord, one-word, number-word, itself, one-read}
 
 -- ---- the television

@@ -1,9 +1,8 @@
 -- The number of a line is read off what is said at it.
-use Rattle.std.proofs.Common.{◌≡◌, ℕ, suc, zero, ◌+◌, ◌/◌, ◌%◌, arith, ap, subst, ◌∙◌, refl, Bool, true, false}
-use Rattle.std.proofs.Common.{cond, inl, inr, ltb, List, [], ◌∷◌, ◌++◌}
-use Rattle.std.specs.Prelude.{ℤ, pos, negsuc, ◌==◌, All, Option, Some, None, codes, decimal}
+use Rattle.std.proofs.Common.{◌≡◌, ℕ, suc, zero, ◌+◌, ◌/◌, ◌%◌, arith, ap, subst, ◌∙◌, refl, Bool, true, false, cond}
+use Rattle.std.proofs.Common.{inl, inr, ltb, List, [], ◌∷◌, ◌++◌, ℤ, pos, negsuc, ◌==◌, All, Option, Some, None, codes}
+use Rattle.std.proofs.Common.{decimal, ne_eqb}
 use Rattle.std.specs.Fmt.{signed_decimal, digits, digits_onto, digit_glyph}
-use Rattle.std.proofs.lemmas.Bool.{ne_eqb}
 use Rattle.std.proofs.lemmas.List.{append_assoc}
 use Rattle.std.proofs.lemmas.List.Elements.{All-nil, All-cons, All-append, All-weaker}
 use Rattle.std.proofs.lemmas.List.Splits.{slice_split_at}
@@ -14,9 +13,8 @@ use Rattle.css_lines.specs.Progress.{HasNoFeed}
 use Rattle.css_schedule.specs.Words.{is_space, words_of}
 use Rattle.css_tsmsg.specs.Names.{json_name}
 use Rattle.css_tsmsg.specs.declared.name.TsName.{TsName}
-use Rattle.css_tsmsg.specs.declared.name.TsName.TheVariants.{ContentIdStem, TimelineSelector, ContentTime}
-use Rattle.css_tsmsg.specs.declared.name.TsName.TheVariants.{TimelineSpeedMultiplier, WallClockTime, Earliest, Latest}
-use Rattle.css_tsmsg.specs.declared.name.TsName.TheVariants.{Actual}
+use Rattle.css_tsmsg.specs.declared.name.TsName.TheVariants.{ContentIdStem, TimelineSelector, TimelineSpeedMultiplier}
+use Rattle.css_tsmsg.specs.declared.name.TsName.TheVariants.{ContentTime, WallClockTime, Earliest, Latest, Actual}
 use Rattle.css_tsmsg.specs.declared.fault.TsFault.{TsFault}
 use Rattle.css_tsmsg.specs.declared.fault.TsFault.TheVariants as fault
 use Rattle.css_companion.specs.Printed.{fault_words, cause_words, at_position, report_words}

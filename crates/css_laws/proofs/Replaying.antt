@@ -1,9 +1,8 @@
 -- A replay of a generated schedule accepts each line, and prints what is told at it.
-use Rattle.std.proofs.Common.{◌≡◌, ℕ, suc, zero, ◌+◌, ◌-◌, ◌*◌, ◌<◌, ◌≤◌, ◌==◌, arith, ap, sym, subst, ◌∙◌, refl}
-use Rattle.std.proofs.Common.{Bool, true, false, List, [], ◌∷◌, ◌++◌, length}
-use Rattle.std.specs.Prelude.{Option, Some, None, Result, Ok, if◌then◌else◌, replicate}
-use Rattle.std.specs.Option.{option_map, option_to_list}
-use Rattle.std.proofs.lemmas.Bool.{eq-eqb, ne_eqb, eqb-true, eqb-false}
+use Rattle.std.proofs.Common.{◌≡◌, ℕ, suc, zero, ◌+◌, ◌-◌, ◌*◌, ◌<◌, ◌≤◌, ◌==◌, arith, ap, sym, subst, ◌∙◌, refl, Bool}
+use Rattle.std.proofs.Common.{true, false, List, [], ◌∷◌, ◌++◌, length, Option, Some, None, Result, Ok, if◌then◌else◌}
+use Rattle.std.proofs.Common.{replicate, eq-eqb, ne_eqb, eqb-true, option_map, option_to_list}
+use Rattle.std.proofs.lemmas.Bool.{eqb-false}
 use Rattle.std.proofs.lemmas.Bool.Decides.{nat_tests}
 use Rattle.std.proofs.lemmas.List.{append-nil, length-append, length-replicate, replicate_more}
 use Rattle.std.proofs.lemmas.List.Concat.{flat_map-append}
@@ -37,8 +36,7 @@ use Rattle.css_survey.proofs.Accepted.{generated_accepted}
 use Rattle.css_replay.specs.declared.reader.Cause.{Cause}
 use Rattle.css_replay.specs.Replayed.{Extent, Opening, Outset, Running, after, caused, declared, ended_at, grown}
 use Rattle.css_replay.specs.Replayed.{longest_input, longest_line, meant_at, next_companion, opened, reached}
-use Rattle.css_replay.specs.Replayed.{read_meant}
-use Rattle.css_replay.specs.Replayed.{replayed, started, version_of, with_line}
+use Rattle.css_replay.specs.Replayed.{read_meant, replayed, started, version_of, with_line}
 use Rattle.css_replay.proofs.Texts.{printed_is, reached-push}
 use Rattle.css_laws.specs.Generations.{GeneratedSchedulesAreReplayed}
 use Rattle.css_laws.proofs.Plain.{is_short, IsLineText, line-short, line-plain, line-text, header-short}

@@ -1,7 +1,6 @@
 -- An input as steps: each line with the number of its line feeds, which the last line may lack.
-use Rattle.std.proofs.Common.{◌≡◌, ℕ, ◌+◌, ◌≤◌, ap, sym, subst, ◌∙◌, refl, Bool, true, false, cond, List, [], ◌∷◌}
-use Rattle.std.proofs.Common.{◌++◌, length, map}
-use Rattle.std.proofs.Common.{append_assoc, append-nil, arith, ltb}
+use Rattle.std.proofs.Common.{◌≡◌, ℕ, ◌+◌, ◌≤◌, ap, sym, subst, ◌∙◌, refl, Bool, true, false, cond, List, [], ◌∷◌, ◌++◌}
+use Rattle.std.proofs.Common.{length, map, append_assoc, append-nil, arith, ltb}
 use Rattle.std.specs.Prelude.{Option, Some, None, Result, Ok, Err, not, ◌||◌}
 use Rattle.std.specs.List.{flat_map, list_all}
 use Rattle.std.proofs.lemmas.List.Elements.{All-nil, All-push, All-weaker}
@@ -13,8 +12,7 @@ use Rattle.css_lines.specs.Meaning.{Meaning, Outcome, refused_at, followed_from,
 use Rattle.css_lines.specs.Meaning.{reader_outcome, line_outcome, outcome_from, finish_outcome, end_outcome, outcome}
 use Rattle.css_lines.specs.declared.reader.Refusal.{Refusal}
 use Rattle.css_lines.specs.declared.reader.Refusal.TheVariants.{Long}
-use Rattle.css_lines.proofs.Cut.{whole_lines_is, last_part_is, whole_from}
-use Rattle.css_lines.proofs.Cut.{last_from, whole_from-free, last_from-free}
+use Rattle.css_lines.proofs.Cut.{whole_lines_is, last_part_is, whole_from, last_from, whole_from-free, last_from-free}
 use Rattle.css_lines.proofs.Meant.{followed_by-assoc}
 
 -- ---- steps

@@ -1,8 +1,7 @@
 -- What a line and a header of version 1 become is read as the same line and as the same header, has no line feed, and
 -- is little longer.
 use Rattle.std.proofs.Common.{◌≡◌, ℕ, ◌+◌, ◌*◌, ◌≤◌, arith, ap, sym, ◌∙◌, refl, false, List, [], ◌∷◌, ◌++◌, length}
-use Rattle.std.proofs.Common.{append_assoc}
-use Rattle.std.specs.Prelude.{Ok, codes}
+use Rattle.std.proofs.Common.{append_assoc, Ok, codes}
 use Rattle.std.specs.List.{position_or_len}
 use Rattle.std.proofs.lemmas.List.{length-append}
 use Rattle.std.proofs.lemmas.List.Elements.{All-nil, All-cons, All-append, All-take, All-drop}
@@ -17,8 +16,8 @@ use Rattle.css_schedule.specs.declared.line.Line.{Line}
 use Rattle.css_schedule.specs.Words.{is_space, words_of}
 use Rattle.css_schedule.specs.Lines as lines
 use Rattle.css_schedule.specs.Lines.{line_of_words, line_of, line_in}
-use Rattle.css_schedule.specs.Headers.{companion_of_words, header_of_words, header_of, companion_of}
-use Rattle.css_schedule.specs.Headers.{numbered_of_words, with_companion}
+use Rattle.css_schedule.specs.Headers.{companion_of_words, header_of_words, header_of, companion_of, numbered_of_words}
+use Rattle.css_schedule.specs.Headers.{with_companion}
 use Rattle.css_migrate.specs.Migrated.{first_word, other_words, later_words, three_words, fed, line_turned}
 use Rattle.css_migrate.specs.Migrated.{header_turned}
 use Rattle.css_laws.proofs.Cuts.{cut-words, cut-size}

@@ -1,6 +1,5 @@
 -- A replay of what a run of `migrate` wrote.
-use Rattle.std.proofs.Common.{inl, inr, sym, ℕ, List}
-use Rattle.std.specs.Prelude.{Option}
+use Rattle.std.proofs.Common.{inl, inr, sym, ℕ, List, Option}
 use Rattle.css_lines.specs.Meaning.{outcome}
 use Rattle.css_migrate.specs.Migrated.{migrated}
 use Rattle.css_status.specs.Ended.{Reads}

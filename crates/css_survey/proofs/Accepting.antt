@@ -1,7 +1,6 @@
 -- Each drawn line is accepted after those before it.
-use Rattle.std.proofs.Common.{◌≡◌, ℕ, suc, zero, ◌+◌, ◌<◌, ◌≤◌, arith, ap, sym, subst, ◌∙◌, refl}
-use Rattle.std.proofs.Common.{Bool, true, false, List, ◌∷◌}
-use Rattle.std.specs.Prelude.{None, IfSome, Result, Ok, length}
+use Rattle.std.proofs.Common.{◌≡◌, ℕ, suc, zero, ◌+◌, ◌<◌, ◌≤◌, arith, ap, sym, subst, ◌∙◌, refl, Bool, true, false}
+use Rattle.std.proofs.Common.{List, ◌∷◌, None, IfSome, Result, Ok, length}
 use Rattle.std.specs.Result.{result_and}
 use Rattle.std.proofs.lemmas.List.{length-replicate}
 use Rattle.css_schedule.specs.Owners.{is_own}

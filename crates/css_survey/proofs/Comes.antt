@@ -1,8 +1,7 @@
 -- What a generated line says can happen: its request was sent, its take waits for an answer, its datagram was made.
-use Rattle.std.proofs.Common.{◌≡◌, ℕ, suc, ◌+◌, ◌-◌, ◌<◌, ◌≤◌, arith, ap, sym, subst, refl}
-use Rattle.std.proofs.Common.{Bool, true, false, List, [], ◌∷◌, length}
-use Rattle.std.specs.Prelude.{Option, Some, None, IfSome, Ok, All, ◌==◌, ⊤}
-use Rattle.std.specs.Prelude.{reverse, slice_index}
+use Rattle.std.proofs.Common.{◌≡◌, ℕ, suc, ◌+◌, ◌-◌, ◌<◌, ◌≤◌, arith, ap, sym, subst, refl, Bool, true, false, List, []}
+use Rattle.std.proofs.Common.{◌∷◌, length}
+use Rattle.std.specs.Prelude.{Option, Some, None, IfSome, Ok, All, ◌==◌, ⊤, reverse, slice_index}
 use Rattle.std.proofs.lemmas.Bool.{eq-eqb, ne_eqb, eqb-false, lt-ltb}
 use Rattle.std.proofs.lemmas.List.Elements.{All-nil, All-cons, All-head, All-tail, All-weaker}
 use Rattle.css_server.specs.Tickets.{Ticket, is_greater, greatest_with}
@@ -11,7 +10,7 @@ use Rattle.css_schedule.specs.declared.line.Verb.{Verb}
 use Rattle.css_schedule.specs.declared.line.Verb.TheVariants.{Ask, Take, Give, Land, Print, Sleep}
 use Rattle.css_meaning.specs.Numbering.{numbered}
 use Rattle.css_meaning.specs.Happened as happened
-use Rattle.css_meaning.specs.Happened.{Numbered, requests, tickets, taken_for, made_for, is_given, server_of, answers_to}
+use Rattle.css_meaning.specs.Happened.{Numbered, requests, tickets, taken_for, made_for, is_given}
 use Rattle.css_meaning.specs.Verdicts.{carried_out, printed_for}
 use Rattle.css_gen.specs.Crowd.{senders_after, askers_after}
 use Rattle.css_survey.specs.Generated.{header_for}

@@ -1,6 +1,5 @@
 -- Each generated line after the opening is drawn, with one companion and with several.
-use Rattle.std.proofs.Common.{◌≡◌, ℕ, suc, ◌+◌, ◌-◌, ◌*◌, ◌≤◌, arith, ap, subst, refl}
-use Rattle.std.proofs.Common.{Bool, true, false, cond, List}
+use Rattle.std.proofs.Common.{◌≡◌, ℕ, suc, ◌+◌, ◌-◌, ◌*◌, ◌≤◌, arith, ap, subst, refl, Bool, true, false, cond, List}
 use Rattle.std.specs.Prelude.{nat_le, slice_index_or, ◌==◌}
 use Rattle.std.proofs.lemmas.Bool.{le-ltb, lt-leb, ne_eqb}
 use Rattle.css_schedule.specs.Owners.{is_own}

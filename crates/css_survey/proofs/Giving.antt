@@ -1,7 +1,5 @@
 -- What a generator gave, and whether there was a line more.
-use Rattle.std.proofs.Common.{◌≡◌, ◌+◌, ◌<◌, ℕ, List, Bool, true, false, cond, ltb, refl}
-use Rattle.std.specs.Prelude.{Some, None}
-use Rattle.std.proofs.lemmas.Bool.{ltb-true}
+use Rattle.std.proofs.Common.{◌≡◌, ◌+◌, ◌<◌, ℕ, List, Bool, true, false, cond, ltb, refl, ltb-true, Some, None}
 use Rattle.css_gen.specs.Generated.{Generator, text_after, next_text, after_next}
 
 -- A generator gave this text: it was the next one, and there was one line more.

@@ -1,10 +1,8 @@
 -- The opening of a generated schedule is accepted, whatever the number of its companions.
 use Rattle.std.proofs.Common.{◌≡◌, ◌≢◌, ℕ, suc, zero, ◌+◌, ◌-◌, ◌*◌, ◌/◌, ◌%◌, ◌<◌, ◌≤◌, arith, ap, sym, subst, ◌∙◌}
-use Rattle.std.proofs.Common.{refl, Bool, true, false, List, [], ◌∷◌, length}
-use Rattle.std.specs.Prelude.{Option, Some, None, IfSome, unwrap_or, Result, Ok, codes, ◌==◌, nat_lt}
-use Rattle.std.specs.Prelude.{if◌then◌else◌}
+use Rattle.std.proofs.Common.{refl, Bool, true, false, List, [], ◌∷◌, length, le-ltb, lt-ltb, le-leb, eqb-true, Option}
+use Rattle.std.proofs.Common.{Some, None, IfSome, unwrap_or, Result, Ok, codes, ◌==◌, nat_lt, if◌then◌else◌}
 use Rattle.std.specs.Result.{result_and}
-use Rattle.std.proofs.lemmas.Bool.{le-ltb, lt-ltb, le-leb, eqb-true}
 use Rattle.std.proofs.lemmas.List.{length-replicate}
 use Rattle.std.proofs.lemmas.List.Elements.{All-nil}
 use Rattle.css_num.specs.declared.protocol.Kind.TheVariants.{Cii, Ts}
@@ -36,9 +34,8 @@ use Rattle.css_survey.proofs.Generating.{of-one}
 use Rattle.css_survey.proofs.MadeOf.{made_of}
 use Rattle.css_survey.proofs.Seen.{Oscillators, AllSeen, IsShown, get-replicate, shown-ok, all-seen}
 use Rattle.css_survey.proofs.Watched.{IsSeen, AreSeen, both-ok}
-use Rattle.css_survey.proofs.Sessions.{list_of, own_line, own_1, own_2, own_3, own_4, IsUnheard}
-use Rattle.css_survey.proofs.Sessions.{carried-1, carried-2, carried-3, carried-4, carried-5}
-use Rattle.css_survey.proofs.Sessions.{more-open, still-unheard}
+use Rattle.css_survey.proofs.Sessions.{list_of, own_line, own_1, own_2, own_3, own_4, IsUnheard, carried-1, carried-2}
+use Rattle.css_survey.proofs.Sessions.{carried-3, carried-4, carried-5, more-open, still-unheard}
 
 -- ---- the lines
 -- the lines of the opening, from the first after the header on

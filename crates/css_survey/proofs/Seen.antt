@@ -1,8 +1,7 @@
 -- The tests of all clocks pass on lines that show them.
-use Rattle.std.proofs.Common.{◌≡◌, ℕ, suc, zero, ◌+◌, ◌-◌, ◌<◌, ◌≤◌, arith, subst, refl}
-use Rattle.std.proofs.Common.{Bool, true, false, cond, List, ◌∷◌, ◌==◌}
-use Rattle.std.specs.Prelude.{Option, Some, None, IfSome, Result, Ok, replicate, slice_get}
-use Rattle.std.proofs.lemmas.Bool.{eqb-true, eqb-false}
+use Rattle.std.proofs.Common.{◌≡◌, ℕ, suc, zero, ◌+◌, ◌-◌, ◌<◌, ◌≤◌, arith, subst, refl, Bool, true, false, cond, List}
+use Rattle.std.proofs.Common.{◌∷◌, ◌==◌, eqb-true, Option, Some, None, IfSome, Result, Ok, replicate, slice_get}
+use Rattle.std.proofs.lemmas.Bool.{eqb-false}
 use Rattle.css_model.specs.Numbers.{precision_ns}
 use Rattle.css_moments.specs.Drifts.{Shown, last_shown}
 use Rattle.css_meaning.specs.declared.fault.WorldFault.{WorldFault}

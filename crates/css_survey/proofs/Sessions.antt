@@ -1,10 +1,7 @@
 -- A companion opens its two sessions by five lines: each of them can happen, whatever sessions other companions opened
 -- before.
-use Rattle.std.proofs.Common.{◌≡◌, ◌≢◌, ℕ, suc, ◌+◌, ◌<◌, ◌≤◌, arith, ap, ◌∙◌, refl, Bool, true, false, cond, eqb}
-use Rattle.std.proofs.Common.{List, [], ◌∷◌, length}
-use Rattle.std.specs.Prelude.{Option, Some, None, nat_lt, ◌==◌, Ok}
-use Rattle.std.specs.Option.{option_map}
-use Rattle.std.proofs.lemmas.Bool.{lt-ltb, eq-eqb, ne_eqb}
+use Rattle.std.proofs.Common.{◌≡◌, ◌≢◌, ℕ, suc, ◌+◌, ◌<◌, ◌≤◌, arith, ap, ◌∙◌, refl, Bool, true, false, cond, eqb, List}
+use Rattle.std.proofs.Common.{[], ◌∷◌, length, option_map, lt-ltb, eq-eqb, ne_eqb, Option, Some, None, nat_lt, ◌==◌, Ok}
 use Rattle.css_model.specs.declared.Kind.TheVariants as session
 use Rattle.css_model.specs.History.{History, Dialled, Heard, Wrote}
 use Rattle.css_player.specs.Events.{player_of}
@@ -17,8 +14,8 @@ use Rattle.css_sessions.specs.declared.session.Session.{Session}
 use Rattle.css_sessions.specs.declared.session.Talk.{Talk}
 use Rattle.css_sessions.specs.declared.session.Talk.TheVariants as talk
 use Rattle.css_sessions.specs.Offsets.{control_for}
-use Rattle.css_sessions.specs.Kept.{Event as SessionsCall, Opened, SetUp, full_text, talk_of, begun}
-use Rattle.css_sessions.specs.Kept.{with_session, with_talk}
+use Rattle.css_sessions.specs.Kept.{Event as SessionsCall, Opened, SetUp, full_text, talk_of, begun, with_session}
+use Rattle.css_sessions.specs.Kept.{with_talk}
 use Rattle.css_sessions.specs.Told.{born, set_life, living, when, life_of, state_of, texts_of, texts_of_lived}
 use Rattle.css_sessions.specs.Told.{sessions_of}
 use Rattle.css_sessions.proofs.Talks.{talk_of-with_session}
@@ -28,8 +25,7 @@ use Rattle.css_tv.specs.declared.event.TvEvent.TheVariants as event
 use Rattle.css_schedule.specs.declared.header.Header.{Header}
 use Rattle.css_schedule.specs.declared.line.Verb.{Verb}
 use Rattle.css_schedule.specs.declared.line.Verb.TheVariants.{Opening, Bring, Up}
-use Rattle.css_meaning.specs.Sessions.{addresses, setup_of, received_from, told_to}
-use Rattle.css_meaning.specs.Sessions.{next_down, next_up}
+use Rattle.css_meaning.specs.Sessions.{addresses, setup_of, received_from, told_to, next_down, next_up}
 use Rattle.css_meaning.specs.Happened.{Numbered, events_of, history_of}
 use Rattle.css_meaning.specs.Verdicts.{can_talk, played, carried_out}
 use Rattle.css_survey.specs.Generated.{heading}

@@ -1,10 +1,7 @@
 -- A survey counts what is told at the lines of a schedule.
-use Rattle.std.proofs.Common.{◌≡◌, ℕ, suc, zero, ◌+◌, ◌-◌, ◌<◌, ◌≤◌, arith, ap, sym, subst, ◌∙◌, refl}
-use Rattle.std.proofs.Common.{List, [], ◌∷◌, ◌++◌, length}
-use Rattle.std.proofs.lemmas.Bool.{eq-eqb}
+use Rattle.std.proofs.Common.{◌≡◌, ℕ, suc, zero, ◌+◌, ◌-◌, ◌<◌, ◌≤◌, arith, ap, sym, subst, ◌∙◌, refl, List, [], ◌∷◌}
+use Rattle.std.proofs.Common.{◌++◌, length, option_to_list, eq-eqb, Option, Some, None, Result, Ok, Err, OnOk}
 use Rattle.std.proofs.lemmas.List.{append_assoc}
-use Rattle.std.specs.Prelude.{Option, Some, None, Result, Ok, Err, OnOk}
-use Rattle.std.specs.Option.{option_to_list}
 use Rattle.css_model.specs.History.{History}
 use Rattle.css_model.specs.WallClock.{Local}
 use Rattle.css_companion.specs.Meanings.{report_after}
@@ -28,14 +25,13 @@ use Rattle.css_meaning.specs.Verdicts.{local_of, seen_of, report_at}
 use Rattle.css_world.specs.Asked.{MayBeAsked}
 use Rattle.css_world.specs.Standing as worlds
 use Rattle.css_world.specs.Standing.{World}
-use Rattle.css_gen.specs.Second.{least_lines}
 use Rattle.css_gen.specs.Standing.{AreSome}
 use Rattle.std.proofs.lemmas.Bool.Decides.{nat_tests}
 use Rattle.css_survey.specs.Generated.{header_for, heading, line_for, numbered_for, generated}
 use Rattle.css_survey.specs.declared.surveyor.Surveyor.{Surveyor}
 use Rattle.css_survey.specs.declared.summary.Summary.{Summary}
-use Rattle.css_survey.specs.Surveyed.{Told, asked_by, told_at, told_of, told_in, counted, counted_with}
-use Rattle.css_survey.specs.Surveyed.{none_told, summary_of}
+use Rattle.css_survey.specs.Surveyed.{Told, asked_by, told_at, told_of, told_in, counted, counted_with, none_told}
+use Rattle.css_survey.specs.Surveyed.{summary_of}
 use Rattle.css_survey.specs.Surveys.{Stands, HasTaken}
 use Rattle.css_survey.proofs.Accepted.{generated_accepted}
 
@@ -211,10 +207,6 @@ unfolding generated
 taken_first survey seed companions header world none =
     let first : heading companions - heading companions ≡ 0 = omega arith in
     record { header = header; stands = rw first (record { world = world; summary = none }) }
-
--- a schedule has more lines than those
-pub heading_within : (companions lines : ℕ) → least_lines companions ≤ lines → heading companions ≤ lines
-heading_within companions lines least = grind (arith, nat_tests)
 
 -- In the end it has counted what is told at all lines.
 pub all_counted : (survey : Surveyor) (seed companions lines : ℕ) → HasTaken survey seed companions lines

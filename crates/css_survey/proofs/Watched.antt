@@ -1,6 +1,5 @@
 -- The tests of a clock pass on lines that show it as the generator does.
-use Rattle.std.proofs.Common.{◌≡◌, ℕ, ◌+◌, ◌<◌, ◌≤◌, arith, ap, sym, subst, ◌∙◌, refl, Bool, true, false}
-use Rattle.std.proofs.Common.{List, [], ◌∷◌}
+use Rattle.std.proofs.Common.{◌≡◌, ℕ, ◌+◌, ◌<◌, ◌≤◌, arith, ap, sym, subst, ◌∙◌, refl, Bool, true, false, List, [], ◌∷◌}
 use Rattle.std.specs.Prelude.{Option, Some, None, IfSome, Result, Ok, All}
 use Rattle.std.specs.Result.{result_and, result_map_both}
 use Rattle.std.proofs.lemmas.Bool.Decides.{nat_tests}

@@ -1,5 +1,4 @@
-use Rattle.std.proofs.Common.{ap, ◌∙◌, ◌++◌, List, ℕ}
-use Rattle.std.specs.Prelude.{codes, decimal}
+use Rattle.std.proofs.Common.{ap, ◌∙◌, ◌++◌, List, ℕ, codes, decimal}
 use Rattle.css_gen.proofs.SecondTexts.{companion_text-is}
 use Rattle.css_gen.proofs.second.companion_text.Goals as goal
 

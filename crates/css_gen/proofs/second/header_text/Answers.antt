@@ -1,5 +1,4 @@
-use Rattle.std.proofs.Common.{ap, ◌∙◌, ◌++◌, List, ℕ}
-use Rattle.std.specs.Prelude.{decimal}
+use Rattle.std.proofs.Common.{ap, ◌∙◌, ◌++◌, List, ℕ, decimal}
 use Rattle.css_gen.proofs.SecondTexts.{header_text-is}
 use Rattle.css_gen.proofs.second.header_text.Goals as goal
 

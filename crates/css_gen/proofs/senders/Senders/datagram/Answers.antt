@@ -1,5 +1,4 @@
-use Rattle.std.proofs.Common.{◌-◌, length, arith, ap, sym, ◌∙◌, ℕ, List}
-use Rattle.std.specs.Prelude.{slice_index}
+use Rattle.std.proofs.Common.{◌-◌, length, arith, ap, sym, ◌∙◌, ℕ, List, slice_index}
 use Rattle.css_gen.specs.Crowd.{datagrams}
 use Rattle.css_gen.proofs.Landing.{own-length, own-newest, own-older, other-last}
 use Rattle.css_gen.proofs.senders.Senders.datagram.Goals as goal

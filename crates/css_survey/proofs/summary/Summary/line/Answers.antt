@@ -1,5 +1,4 @@
-use Rattle.std.proofs.Common.{◌∙◌}
-use Rattle.std.specs.Prelude.{codes, decimal}
+use Rattle.std.proofs.Common.{◌∙◌, codes, decimal}
 use Rattle.css_survey.proofs.Surveying.{nine_pieces}
 use Rattle.css_survey.proofs.summary.Summary.line.Goals as goal
 
