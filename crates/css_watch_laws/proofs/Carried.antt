@@ -124,7 +124,8 @@ allowed own history reading answer local narrowest =
 
     whole : IsAllowed own reading answers (span_of own reading answer) (span_of own reading answer)
     whole =
-        let among = of_narrowest own history reading (Contains answers) answer narrowest (All-contains_itself answers) in
+        let among =
+        of_narrowest own history reading (Contains answers) answer narrowest (All-contains_itself answers) in
         record {
           truth = between_ends own reading answers (span_of own reading answer) answer answer
               (accepted_declare own history) among among refl refl;
