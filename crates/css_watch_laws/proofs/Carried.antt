@@ -85,7 +85,8 @@ pub carried_lines_are_true : CarriedLinesAreTrue
 carried_lines_are_true plan number reading later history newer progress said told e errors world who sleeps i for
     reads truthful =
     let own = plan.run.companion.local in
-    let found = line_answer plan n number reading history progress agreed told (report_at plan.run history reading) e in
+    let found =
+    line_answer plan number number reading history progress said told (report_at plan.run history reading) e in
     let declared : found.answer.error ≤ max_error =
     of_narrowest own history reading (λ answer. answer.error ≤ max_error) found.answer found.narrowest
     (accepted_declare own history) in
@@ -123,7 +124,8 @@ allowed own history reading answer local narrowest =
 
     whole : IsAllowed own reading answers (span_of own reading answer) (span_of own reading answer)
     whole =
-        let among = of_narrowest own history reading (Contains answers) answer narrowest (All-contains_itself answers) in
+        let among =
+        of_narrowest own history reading (Contains answers) answer narrowest (All-contains_itself answers) in
         record {
           truth = between_ends own reading answers (span_of own reading answer) answer answer
               (accepted_declare own history) among among refl refl;

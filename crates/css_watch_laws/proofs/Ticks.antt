@@ -8,9 +8,11 @@ use Rattle.css_companion.specs.declared.report.Cause.{Cause}
 use Rattle.css_companion.specs.declared.report.Report.{Report}
 use Rattle.css_companion.specs.declared.report.Report.TheVariants as report
 use Rattle.css_drive.specs.CompanionReports.{report_at}
-use Rattle.css_model.specs.History.{History}
+use Rattle.css_companion.specs.Meanings.{timing_after}
+use Rattle.css_model.specs.History.{History, accepted_answers, wall_answer}
 use Rattle.css_model.specs.WallClock.{Answer}
 use Rattle.css_num.specs.Spans.{Interval}
+use Rattle.css_span.specs.WallSpans.{wall_span}
 use Rattle.css_watch.specs.Telling.{said_of, with_ticks}
 use Rattle.css_watch.specs.declared.plan.Plan.{Plan}
 use Rattle.css_watch.specs.declared.progress.Progress.{Progress}
@@ -38,7 +40,9 @@ reported : (plan : Plan) (number reading : ℕ) (history : History) (progress : 
     → said ≡ report.Ticks told.ticks.lo told.ticks.hi
 reported plan number reading history progress agreed told (report.None cause) e = absurd (cc)
 reported plan number reading history progress agreed told (report.Ticks lo hi) e =
-    ap (λ (x : Ticks). report.Ticks x.lo x.hi) (ticks_with number reading _ _ _ _ _ told e)
+    ap (λ (x : Ticks). report.Ticks x.lo x.hi) (ticks_with number reading (record { lo = lo; hi = hi }) agreed
+    (wall_span plan.run.companion.local reading (accepted_answers plan.run.companion.local history))
+    (wall_answer plan.run.companion.local history reading) (timing_after plan.run.companion.selector history) told e)
 
 pub ticks_kept : TicksKeepTheHeadline
 ticks_kept plan number reading history progress agreed told lawful e =
