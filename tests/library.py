@@ -201,26 +201,36 @@ class Suite:
                 self.run(f"the header by {compiler}", [compiler, *words, *WARNINGS, "-fsyntax-only", header])
 
     def as_the_page_says(self):
-        """The page's loop asks seldom, sleeps in between, and shows the question once its tick has come."""
+        """The page's loop asks seldom, sleeps in between, and shows the question once its tick has come: never before,
+        and within a second after it. Where a busy machine was late it is tried again."""
         yours, loop = [it for it in blocks_of(PAGE, "c") if "yours.h" in it]
         (self.room / "yours.h").write_text("#ifndef YOURS_H\n#define YOURS_H\n" + yours + "#endif\n")
         source = self.room / "loop.c"
         source.write_text(loop)
         sources = [source, TESTS / "yours.c", EXAMPLES / "follow" / "session.c"]
-        program = self.built(sources, f"-I{self.room}", f"-I{EXAMPLES}/follow")
+        program, seconds = self.built(sources, f"-I{self.room}", f"-I{EXAMPLES}/follow"), 10
+        for _ in range(3):
+            told, late = self.shown(program, seconds)
+            if late is None or late < 1:
+                break
+        self.check("the page's loop shows the question once it has surely come", late is not None and 0 <= late < 1,
+                   (told, late))
+        requests, used = (int(told[4]), int(told[8])) if late is not None else (0, 0)
+        self.check("it asks at most twice a second", 0 < requests <= 2 * (seconds + 1), requests)
+        self.check("it takes less than 1 % of a processor", used < seconds * 10, used)
+
+    def shown(self, program, seconds):
+        """What the page's loop tells of a question that comes after so many seconds, and how late it showed it; None
+        where it didn't."""
         television = Distant(self.port + 4)
-        seconds = 10
         question = live_server.START + seconds * 90000
         ran = subprocess.run([program, f"ws://127.0.0.1:{self.port + 4}/cii", str(question)],
                              stdout=subprocess.PIPE, text=True, timeout=60, check=False)
-        told = ran.stdout.split()
         television.end()
-        is_told = ran.returncode == 0 and told[:2] == ["shown", "at"]
-        late = (int(told[2]) + live_server.OFFSET - television.began) / 1e9 - seconds if is_told else None
-        self.check("the page's loop shows the question once it has surely come", is_told and 0 <= late < 1, ran.stdout)
-        requests, used = (int(told[4]), int(told[8])) if is_told else (0, 0)
-        self.check("it asks at most twice a second", 0 < requests <= 2 * (seconds + 1), requests)
-        self.check("it takes less than 1 % of a processor", used < seconds * 10, used)
+        told = ran.stdout.split()
+        if ran.returncode != 0 or told[:2] != ["shown", "at"]:
+            return told, None
+        return told, (int(told[2]) + live_server.OFFSET - television.began) / 1e9 - seconds
 
     def packaged(self):
         """The library of the Debian packages, and its archive, whose symbols of debugging are taken off."""

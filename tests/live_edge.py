@@ -3,7 +3,7 @@ checks at a pace that a busy machine keeps."""
 import os, select, socket, struct, sys, threading, time
 
 from live_peer import CLOSE, PING, PONG, dial, nanos, start
-from peer import PATIENCE, UPGRADED, Listener, end_of, greet, is_closed, state, upgraded  # noqa: F401 (for the others)
+from peer import PATIENCE, UPGRADED, Listener, end_of, greet, state, upgraded  # noqa: F401 (for the others)
 
 PACES = (1, 3, 9)  # How many times as long a run has for what it does, where a busy machine left it too little.
 LASTING = ("--seconds", "--turns", "--report-every")

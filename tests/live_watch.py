@@ -20,11 +20,12 @@ import threading
 import time
 
 from checks import Checks, ports, program
-from live_edge import Beside, companion, is_closed, patiently, processor_times, stop, wait_for
+from live_edge import Beside, companion, patiently, processor_times, stop, wait_for
 from live_peer import TIMELINE
 from live_words import told_by
 from own_network import alone, refused_dials, why_not
 from page_tv import SECOND, SLOW_RATE
+from peer import LATE
 from television import UNAVAILABLE, Set
 from watch_lines import Story, read
 
@@ -298,8 +299,10 @@ def rest(tv, story, lines):
     count = sum(fault in ("Undecodable Length", "NotAnAnswer", "Unasked") for fault in story.refused)
     check("so are those of a flood, as many as were taken", count > 100 and tv.flooded > 10_000,
           f"{count} of {tv.flooded}")
-    ends = [end for end in tv.ends if not is_closed(*end[1:])]
+    late = sum(how == LATE for _, _, how in tv.ends)
+    ends = [end for end in tv.ends if end[1] != [1000] or end[2] not in ("in order", LATE)]
     check("each session that is hung up has a close with 1000", len(tv.ends) > 20 and not ends, ends or len(tv.ends))
+    check("and then ends in order, where the machine isn't late", 2 * late < len(tv.ends), f"{late} of them late")
     setup = {"contentIdStem": "", "timelineSelector": TIMELINE}
     check("each setup is the wanted one", tv.setups and all(each == setup for each in tv.setups), len(tv.setups))
 

@@ -241,7 +241,7 @@ def end_of(peer, seconds=PATIENCE, over=None):
     ended in order, by a reset, or not at all. A ping is answered, and so is a close; `over` is set before.
 
     Whoever closes waits a second for that answer and then may cut the connection, though the peer has all that it was
-    told. A reset so long after the close is told as late: this end was."""
+    told. A reset so long after the close is told as late: one of both ends was kept from doing its part."""
     codes, texts, closed = [], 0, None
     try:
         while True:
@@ -262,8 +262,3 @@ def end_of(peer, seconds=PATIENCE, over=None):
         return codes, texts, "not at all"
     except OSError:
         return codes, texts, LATE if closed and time.monotonic() > closed + ANSWERED else "by a reset"
-
-
-def is_closed(codes, how, code=1000):
-    """Whether a connection was closed by one close frame with this code, and not cut before that could be answered."""
-    return codes == [code] and how in ("in order", LATE)
