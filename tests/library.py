@@ -209,8 +209,8 @@ class Suite:
         source.write_text(loop)
         sources = [source, TESTS / "yours.c", EXAMPLES / "follow" / "session.c"]
         program, seconds = self.built(sources, f"-I{self.room}", f"-I{EXAMPLES}/follow"), 10
-        for _ in range(3):
-            told, late = self.shown(program, seconds)
+        for at in range(3):
+            told, late = self.shown(program, self.port + 10 + 2 * at, seconds)
             if late is None or late < 1:
                 break
         self.check("the page's loop shows the question once it has surely come", late is not None and 0 <= late < 1,
@@ -219,12 +219,12 @@ class Suite:
         self.check("it asks at most twice a second", 0 < requests <= 2 * (seconds + 1), requests)
         self.check("it takes less than 1 % of a processor", used < seconds * 10, used)
 
-    def shown(self, program, seconds):
+    def shown(self, program, port, seconds):
         """What the page's loop tells of a question that comes after so many seconds, and how late it showed it; None
         where it didn't."""
-        television = Distant(self.port + 4)
+        television = Distant(port)
         question = live_server.START + seconds * 90000
-        ran = subprocess.run([program, f"ws://127.0.0.1:{self.port + 4}/cii", str(question)],
+        ran = subprocess.run([program, f"ws://127.0.0.1:{port}/cii", str(question)],
                              stdout=subprocess.PIPE, text=True, timeout=60, check=False)
         television.end()
         told = ran.stdout.split()

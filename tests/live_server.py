@@ -32,7 +32,8 @@ class Server:
         self.listeners = {"cii": self.listener(port), "ts": self.listener(port + 1)}
         for name, listener in self.listeners.items():
             threading.Thread(target=self.serve, args=(name, listener), daemon=True).start()
-        threading.Thread(target=self.clock, daemon=True).start()
+        self.clocked = threading.Thread(target=self.clock, daemon=True)
+        self.clocked.start()
 
     @staticmethod
     def listener(port):
@@ -44,6 +45,7 @@ class Server:
 
     def end(self):
         self.ends = True
+        self.clocked.join(1)  # Else the port would stay taken for a while.
         self.udp.close()
         for listener in self.listeners.values():
             listener.shutdown(socket.SHUT_RDWR)  # Else who waits there might take a connection of another one.

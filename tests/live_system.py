@@ -17,9 +17,9 @@ def run(program, words, given=b""):
     return done.returncode, done.stdout, done.stderr.decode().strip()
 
 
-def finished(child, given=None):
+def finished(child, given=None, seconds=60):
     """What a run writes to both streams; it is ended where it takes too long."""
-    timer = threading.Timer(60, child.kill)
+    timer = threading.Timer(seconds, child.kill)
     timer.start()
     told = child.communicate(given)
     timer.cancel()
@@ -98,7 +98,7 @@ def first_word(check, times, program, port, word):
                     "50000000", "--turns", "3000"], times)
     child = subprocess.Popen([word, *words], executable=program, stdin=subprocess.PIPE, stdout=subprocess.PIPE,
                              stderr=subprocess.PIPE)
-    lines, errors = finished(child, SCRIPT.encode())
+    lines, errors = finished(child, SCRIPT.encode(), 60 * times)
     last = (lines.decode().splitlines() or [""])[-1]
     check(f"a pair with the first word {word} makes its reports",
           child.returncode == 0 and last.startswith("3 ticks "), (child.returncode, last, errors.decode().strip()))

@@ -209,9 +209,10 @@ def wrongly_answered(check, times, program, name, told, instead, words):
     """A server's answer of status 101 has something else in the place of what makes a session. What was wrong stands in
     the log and in the hint."""
     server = Listener(lambda peer: peer.conn.sendall(upgraded(peer.head()).replace(told, instead)))
-    child = companion(["env", "CSS_LOG=1", *program], server.port, *slower(["--seconds", "5"], times))
+    lasting = slower(["--seconds", "5", "--report-every", "1000000000"], times)
+    child = companion(["env", "CSS_LOG=1", *program], server.port, *lasting)
     log = child.stderr.read().decode().splitlines()
-    status = child.wait(20)
+    status = child.wait(PATIENCE)
     stop(child)
     server.end()
     dials = [line for line in log if line.startswith("css: log: CII dialled ")]

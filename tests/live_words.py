@@ -2,7 +2,8 @@
 hints of words that are those of no command stand in words.py."""
 import os, re, subprocess, threading
 
-from live_edge import Clock, Listener, closed_port, dial_soon, greet, hold, patiently, reset, state, stop, teller
+from live_edge import (Clock, Listener, closed_port, dial_soon, greet, hold, patiently, reset, slower, state, stop,
+                       teller)
 from live_peer import start
 
 HINT = "css: hint: "
@@ -143,8 +144,8 @@ def sockets(check, program, port):
 def against(check, times, program, name, serve, status, line, hint):
     """How a companion's run ends against a server."""
     server = Listener(serve)
-    cii = f"ws://127.0.0.1:{server.port}/cii"
-    child = start(program, ["companion", "--cii", cii, "--seconds", str(3 * times)])
+    lasting = slower(["--seconds", "3", "--report-every", "1000000000"], times)
+    child = start(program, ["companion", "--cii", f"ws://127.0.0.1:{server.port}/cii", *lasting])
     check_end(check, name, child, status, line, hint)
     server.end()
 
