@@ -67,9 +67,13 @@ class Visit:
         self.tasks = [asyncio.create_task(self.serve(service)) for service in (self.cii, self.ts, self.wc)]
 
     async def end(self) -> None:
-        """Hangs up."""
-        for task in self.tasks:
-            task.cancel()
+        """Hangs up. Where a dial is done at the very moment that it is cancelled, asyncio may lose that: so whoever
+        hasn't ended then is cancelled again."""
+        tasks = set(self.tasks)
+        while tasks:
+            for task in tasks:
+                task.cancel()
+            _, tasks = await asyncio.wait(tasks, timeout=DIAL)
         await asyncio.gather(*self.tasks, return_exceptions=True)
         self.companion.close()
         if not self.over.cancel():
