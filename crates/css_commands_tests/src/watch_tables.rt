@@ -93,19 +93,13 @@ macro_rules! answer {
     };
 }
 
-/// One of two answers that contradict each other, of which nothing is declared.
-#[rattlefmt::skip]
-macro_rules! exchange {
-    ($landed:literal, $originate:literal, $value:literal) => {
-        concat!(r#"{"error":0,"landed":""#, $landed, r#"","originate":""#, $originate,
-            r#"","precision":"1","receive":""#, $value, r#"","transmit":""#, $value, r#""}"#)
-    };
-}
-
 /// The end of a visit of which the second answer contradicts the first.
 #[rattlefmt::skip]
-const DISAGREED: &str = concat!(r#"{"between":["#, exchange!("1100", "1000", "9000"), ",",
-    exchange!("100", "0", "5000"), r#"],"event":"end","number":1,"why":"disagree"}"#);
+const DISAGREED: &str = concat!(
+    r#"{"between":[{"error":0,"landed":"1100","originate":"1000","precision":"1","receive":"9000","transmit":"9000"},"#,
+    r#"{"error":0,"landed":"100","originate":"0","precision":"1","receive":"5000","transmit":"5000"}],"#,
+    r#""event":"end","number":1,"why":"disagree"}"#,
+);
 
 /// The response of the reading 6 lands at 8.
 const ANSWER: &str = answer!("0", "1", "8", "6", "5000", "5001", "7");
