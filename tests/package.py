@@ -82,7 +82,7 @@ def small_library(folder):
     subprocess.run(["gcc", "-g", "-fPIC", "-c", source, "-o", made], check=True)
     subprocess.run(["ar", "rcs", folder / "lib" / "libcss_companion.a", made], check=True)
     shared = folder / "lib" / library.SONAME
-    subprocess.run(["gcc", "-shared", f"-Wl,-soname,{library.SONAME}", made, "-o", shared], check=True)
+    subprocess.run(["gcc", "-shared", "-s", f"-Wl,-soname,{library.SONAME}", made, "-o", shared], check=True)
     shutil.copy(TOP / "crates" / library.NAME / "include" / "css_companion.h", folder / "include")
     library.package(folder)
 
