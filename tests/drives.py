@@ -132,6 +132,10 @@ impl<W: Write> Outside for Telling<W> {
         self.outside.now(why)
     }
 
+    fn rest(&mut self, until: u64) {
+        self.outside.rest(until);
+    }
+
     fn dial(&mut self, kind: Kind, to: &Address) -> Result<u32, OutFault> {
         self.outside.dial(kind, to)
     }
@@ -187,6 +191,8 @@ impl Outside for Quiet {
     fn now(&mut self, _why: Why) -> Result<Clocked, OutFault> {
         Ok(Clocked { reading: 0, slept: false })
     }
+
+    fn rest(&mut self, _until: u64) {}
 
     fn dial(&mut self, _kind: Kind, _to: &Address) -> Result<u32, OutFault> {
         if self.peers >= 1000 {
