@@ -107,10 +107,9 @@ impl<O: Outside, W: Observes> Run<'_, O, W> {
 
     /// The least reading at which something is due by the clock.
     fn next_due(&self, config: &DriveConfig) -> u64 {
-        let seen = self.observer.next_due(self.live.turn.unwrap_or(0));
         let report = next_report(self.live, config.report_every);
-        let request = next_due(self.live, config.limit, config.ask_every);
-        seen.min(report).min(request)
+        let due = report.min(next_due(self.live, config.limit, config.ask_every));
+        self.observer.next_due(self.live.turn.unwrap_or(0), due)
     }
 
     /// Makes the calls of a turn after its report.

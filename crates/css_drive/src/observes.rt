@@ -31,8 +31,9 @@ pub trait Observes {
     fn check(&self) -> Result<(), OutFault>
         ensures { MatchResult result (λ _. over self.now ≡ None) (λ fault. over self.now ≡ Some fault) };
 
-    /// The least reading at which it has something to tell by the clock alone, after a turn of this reading.
-    fn next_due(&self, turn: u64) -> u64;
+    /// The least reading at which the next turn has something to do by the clock alone, after a turn of the first of
+    /// these readings, where the run itself has something to do at the second.
+    fn next_due(&self, turn: u64, due: u64) -> u64;
 
     /// The machine slept.
     fn slept(&mut self)
@@ -93,8 +94,8 @@ impl Observes for () {
         Ok(())
     }
 
-    fn next_due(&self, _turn: u64) -> u64 {
-        u64::MAX
+    fn next_due(&self, _turn: u64, due: u64) -> u64 {
+        due
     }
 
     fn slept(&mut self) {}

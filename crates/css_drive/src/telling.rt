@@ -58,8 +58,8 @@ impl<K: Sink, F: Listens> Observes for Telling<'_, K, F> {
         }
     }
 
-    fn next_due(&self, _turn: u64) -> u64 {
-        u64::MAX
+    fn next_due(&self, _turn: u64, due: u64) -> u64 {
+        due
     }
 
     fn slept(&mut self) {}

@@ -114,8 +114,8 @@ impl<K: Sink> Observes for Recorder<'_, K> {
         self.written
     }
 
-    fn next_due(&self, _turn: u64) -> u64 {
-        u64::MAX
+    fn next_due(&self, _turn: u64, due: u64) -> u64 {
+        due
     }
 
     fn slept(&mut self) {

@@ -73,12 +73,13 @@ pub(crate) fn reports_now(plan: &Plan, reading: u64, begun: &Begun) -> bool
     }
 }
 
-/// How long a visit goes on at least after CSS-TS closed, in nanoseconds.
+/// How long a visit goes on after CSS-TS closed, in nanoseconds, where nothing comes.
 const GRACE: u64 = 4_000_000;
 
-/// The least reading at which a turn has something to tell by the clock, after a turn of this reading: the next report,
-/// the watch's last turn, or the end of a visit whose CSS-TS has closed.
-pub(crate) fn next_due(plan: &Plan, progress: &Progress, turn: u64) -> u64 {
+/// The least reading at which a turn has something to do by the clock, after a turn of this reading, where the run has
+/// something to do at `due`: the next report, or the watch's last turn. Where CSS-TS has closed the next turn ends the
+/// visit. It waits for what CSS-CII may tell, and nothing that is due hurries it.
+pub(crate) fn next_due(plan: &Plan, progress: &Progress, turn: u64, due: u64) -> u64 {
     if progress.ts_closed {
         return turn.saturating_add(GRACE);
     }
@@ -86,7 +87,7 @@ pub(crate) fn next_due(plan: &Plan, progress: &Progress, turn: u64) -> u64 {
     let first = begun.first.unwrap_or(turn);
     let report = due_from(first, begun.reports, plan.report_every);
     let report = u64::try_from(report).unwrap_or(u64::MAX);
-    report.min(plan.run.limit.last_from(first))
+    due.min(report).min(plan.run.limit.last_from(first))
 }
 
 impl Begun {

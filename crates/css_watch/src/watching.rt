@@ -330,8 +330,8 @@ impl<K: Sink> Observes for Watching<'_, K> {
         }
     }
 
-    fn next_due(&self, turn: u64) -> u64 {
-        next_due(self.plan, self.progress, turn)
+    fn next_due(&self, turn: u64, due: u64) -> u64 {
+        next_due(self.plan, self.progress, turn, due)
     }
 
     fn slept(&mut self) {
