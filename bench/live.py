@@ -3,7 +3,7 @@
 answers, and how seldom a quiet end wakes.
 
     bench/live.py [PROGRAM ..]          the program's words before the command; ./css where there are none
-    bench/live.py --rest [PROGRAM ..]   only what comes of rests, in two minutes
+    bench/live.py --rest [PROGRAM ..]   only what comes of rests, in three minutes
 
 Printed are, in microseconds:
 
@@ -14,7 +14,7 @@ Printed are, in microseconds:
 - the time from a request's sending to the transmit value of its response, with 0, 16 and 250 sessions open at the
   television, half of each kind;
 - of a television with 16 quiet sessions, and of a watch that asks and reports once a second: how often it wakes in a
-  second, and how much of a processor it takes;
+  second, and how much of a processor it takes, beside a television and a companion that run by turns and never rest;
 - how long after a television said it a text is told by a watch, each at a time of its own, and how late its reports
   are;
 - how much longer than its seconds a run takes.
@@ -159,18 +159,27 @@ def over_time(port):
     told("a run of two seconds is longer", times)
 
 
-def rests(port):
-    tv = start(PROGRAM, ["tv", "--port", str(port), "--seconds", "3600", "--relative"], SCRIPT)
+def quiet_television(port, note, *limit):
+    """One with 16 sessions, of which it gives the run."""
+    tv = start(PROGRAM, ["tv", "--port", str(port), *limit, "--relative"], SCRIPT)
     time.sleep(1)
     sessions = [dial(port, "/cii") if at % 2 else set_up(port, SETUP)[0] for at in range(16)]
     time.sleep(1)
-    quiet("a television with 16 sessions", tv)
+    quiet("a television with 16 sessions" + note, tv)
     for session in sessions:
         session.conn.close()
-    watch = companion(PROGRAM, port, "--seconds", "3600", command="watch")
-    time.sleep(2)
-    quiet("a watch", watch)
-    stop(watch)
+    return tv
+
+
+def rests(port):
+    # A run by turns never rests, as every run was before.
+    stop(quiet_television(port + 6, ", by turns", "--turns", "1000000"))
+    tv = quiet_television(port, "", "--seconds", "3600")
+    for name, words in (("companion", ("--turns", "1000000", "--reports", "1000000")), ("watch", ("--seconds", "3600"))):
+        child = companion(PROGRAM, port, *words, command=name)
+        time.sleep(2)
+        quiet("a watch" if name == "watch" else "a companion, by turns", child)
+        stop(child)
     lateness(port, SECOND, 20)
     lateness(port, 37_000_000, 500)
     stop(tv)
