@@ -15,8 +15,8 @@ Printed are, in microseconds:
   television, half of each kind;
 - of a television with 16 quiet sessions, and of a watch that asks and reports once a second: how often it wakes in a
   second, and how much of a processor it takes, beside a television and a companion that run by turns and never rest;
-- how long after a television said it a text is told by a watch, each at a time of its own, and how late its reports
-  are;
+- how long after a television sent it a text is told by a watch, each at a time of its own, beside a plain process that
+  reads and writes; and how late its reports are;
 - how much longer than its seconds a run takes.
 
 All clocks are this machine's one monotone clock, so no time is estimated.
@@ -27,6 +27,7 @@ HERE = os.path.dirname(os.path.dirname(os.path.abspath(__file__)))
 sys.path.insert(0, os.path.join(HERE, "tests"))
 from live_edge import companion, processor_times, stop  # noqa: E402 (the folder comes first)
 from live_peer import dial, nanos, request, set_up, start, television  # noqa: E402
+from peer import frame  # noqa: E402
 from television import SECOND, Set  # noqa: E402
 
 REST = sys.argv[1:2] == ["--rest"]
@@ -126,16 +127,36 @@ def line_of(child, event):
     sys.exit(child.stderr.read().decode())
 
 
-def told_after(name, child, event, say, count=400):
-    """How long after it was said a text is told. Each comes at a time of its own."""
-    times = []
+def told_after(name, lines, conn, event, text_of, count=1000):
+    """How long after it was sent a text is told by a line of this event. Each comes at a time of its own."""
+    times, mark = [], f'"event":"{event}"'.encode()
     for at in range(count):
+        one = frame(1, json.dumps(text_of(at)).encode(), masked=False)
         time.sleep(random.uniform(0.02, 0.06))
         before = time.monotonic_ns()
-        say(at)
-        line_of(child, event)
+        conn.sendall(one)
+        while mark not in lines.readline():
+            pass
         times.append(time.monotonic_ns() - before)
     told(name, times)
+
+
+def hand_on(conn, pipe):
+    while conn.recv(4096):
+        os.write(pipe, b'{"event":"plain"}\n')
+
+
+def handed_on():
+    """The same of a plain process, which reads and writes and does no more."""
+    listener = socket.create_server(("127.0.0.1", 0))
+    here = socket.create_connection(listener.getsockname())
+    there, _ = listener.accept()
+    reading, writing = os.pipe()
+    process = multiprocessing.Process(target=hand_on, args=(there, writing), daemon=True)
+    process.start()
+    with open(reading, "rb") as lines:
+        told_after("a plain process hands a text on", lines, here, "plain", lambda at: {"at": at})
+        process.kill()
 
 
 def lateness(port, every, count):
@@ -187,8 +208,11 @@ def rests(port):
     one = Set(port + 4)
     watch = companion(PROGRAM, one.port, "--seconds", "3600", command="watch")
     line_of(watch, "control")
-    told_after("a text of CSS-TS is told", watch, "control", lambda at: one.go_on())
-    told_after("a text of CSS-CII is told", watch, "state", lambda at: one.say("CII", {"contentId": f"dvb://{at}"}))
+    handed_on()
+    told_after("a text of CSS-TS is told", watch.stdout, one.peers["TS"][0].conn, "control",
+               lambda at: {**one.control, "contentTime": str(at)})
+    told_after("a text of CSS-CII is told", watch.stdout, one.peers["CII"][0].conn, "state",
+               lambda at: {"contentId": f"dvb://{at}"})
     stop(watch)
     one.end()
 
