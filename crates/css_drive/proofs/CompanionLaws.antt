@@ -1,33 +1,26 @@
 -- The laws of companions' runs.
-use Rattle.std.proofs.Common.{◌≡◌, ℕ, ◌≤◌, ◌<◌, arith, suc, ap, sym, ◌∙◌, subst, refl, Bool, true, false, cond, inl}
-use Rattle.std.proofs.Common.{inr, map, List, [], ◌∷◌, ◌++◌, length, drop, Option, Some, None, Result, Ok, Err, take}
-use Rattle.std.proofs.lemmas.Bool.{ltb-true, ltb-false}
-use Rattle.std.specs.Prelude.{◌&&◌, if◌then◌else◌, ◌||◌}
+use Rattle.std.proofs.Common.{◌≡◌, ℕ, ◌≤◌, arith, suc, ap, sym, ◌∙◌, subst, refl, Bool, true, false, map, List, [], ◌∷◌}
+use Rattle.std.proofs.Common.{◌++◌, length, drop, Option, Some, None, Result, take}
+use Rattle.std.proofs.lemmas.Bool.{ltb-false}
+use Rattle.std.proofs.lemmas.Bool.Decides.{nat_tests}
+use Rattle.std.specs.Prelude.{if◌then◌else◌, ◌||◌}
 use Rattle.css_model.specs.declared.Kind.{Kind}
 use Rattle.css_model.specs.declared.Kind.TheVariants as kind
-use Rattle.css_model.specs.declared.Why.{Why}
 use Rattle.css_model.specs.declared.Why.TheVariants as why
-use Rattle.css_model.specs.History.{Address, History, Clock, Slept, Sent, Dialled, Heard, Closed, Gone, LandedAnswer}
-use Rattle.css_model.specs.History.{just_taken, request_in, answer_in, requests, landed_answers, possible_answers}
-use Rattle.css_address.specs.declared.fault.AddressFault.{AddressFault}
-use Rattle.css_cii.specs.declared.name.CiiName.{CiiName}
-use Rattle.css_outside.specs.Outsides.{sleep_entries}
-use Rattle.css_outside.specs.declared.calls.Heard.TheVariants as heard
-use Rattle.css_outside.specs.declared.calls.Wrote.TheVariants as outcome
+use Rattle.css_model.specs.History.{History, Clock, Slept, Sent, Dialled, Heard, Closed, Gone, LandedAnswer, just_taken}
+use Rattle.css_model.specs.History.{request_in, answer_in, requests, landed_answers, possible_answers}
 use Rattle.css_companion.specs.declared.fault.CompanionFault.{CompanionFault}
-use Rattle.css_companion.specs.declared.fault.CompanionFault.TheVariants as fault
 use Rattle.css_companion.specs.declared.report.Report.{Report}
 use Rattle.css_follow.specs.Following.{Seen, told, told_unless, ends_by}
 use Rattle.css_drive.specs.CompanionDue as dues
-use Rattle.css_drive.specs.CompanionDue.{Point, due, due_at, dial_to, dial_first, take_text, hang_up, sending, send_to}
-use Rattle.css_drive.specs.CompanionDue.{is_short, refusal, unless_refused, point_of, end_by, IsProperRun}
+use Rattle.css_drive.specs.CompanionDue.{Point, due, due_at, is_short, refusal, unless_refused, point_of, IsProperRun}
 use Rattle.css_drive.specs.CompanionLaws.{ReportsAreAsAsked, FollowersHear, HasHeard, EachHasHeard, Happening, Sleep}
 use Rattle.css_drive.specs.CompanionLaws.{Asks, Lands, TellsCii, TellsTs, BeginsTs, EndsTs, landing, text_of, end_of}
 use Rattle.css_drive.specs.CompanionLaws.{with_happening, happenings, SameEventsAreReportedAlike}
 use Rattle.css_drive.specs.CompanionReports.{due_reports}
 use Rattle.css_drive.specs.CompanionRun.{after_all}
 use Rattle.css_follow.specs.Listening.{Listener, hearing, words_of}
-use Rattle.css_drive.specs.Proper.{Due, Now, Dial, Accept, TakeDatagram, TakeText, SendText, Ends, MayAdd, Empty, More}
+use Rattle.css_drive.specs.Proper.{Due, Now, Ends, MayAdd, Empty, More}
 use Rattle.css_drive.specs.declared.config.DriveConfig.{DriveConfig}
 use Rattle.css_drive.specs.declared.driven.Driven.TheVariants as driven
 use Rattle.std.specs.List.{list_any}
@@ -109,123 +102,31 @@ Verdict short (Now why.Turn) = short ≡ true
 Verdict short (Ends driven.Done) = short ≡ false
 Verdict short _ = Unit {0}
 
-record Fair (short : Bool) (due : Due) : Type 0 where
-  so : Verdict short due
-
-module _ (short : Bool) where
-  either : (b : Bool) (x y : Due) → Fair short x → Fair short y → Fair short (cond b x y)
-  either true x y v w = v
-  either false x y v w = w
-
-  after_text : (o : Option ℕ) (rest : Due) → Fair short rest → Fair short (take_text o rest)
-  after_text None rest v = v
-  after_text (Some p) rest v = record { so = tt }
-
-  after_dial : (o : Option ℕ) (k : Kind) (property : CiiName) (told : Option (Result Address AddressFault))
-      (rest : Due) → Fair short rest → Fair short (dial_to o k property told rest)
-  after_dial (Some p) k property told rest v = v
-  after_dial None k property None rest v = v
-  after_dial None k property (Some (Err bad)) rest v = record { so = tt }
-  after_dial None k property (Some (Ok to)) rest v = record { so = tt }
-
-  after_first : (o : Option ℕ) (to : Address) (rest : Due) → Fair short rest → Fair short (dial_first o to rest)
-  after_first (Some p) to rest v = v
-  after_first None to rest v = record { so = tt }
-
-  after_sending : (peer : ℕ) (o : Option (List ℕ)) (rest : Due) → Fair short rest
-      → Fair short (sending peer o rest)
-  after_sending peer None rest v = v
-  after_sending peer (Some text) rest v = record { so = tt }
-
-  sends : (o : Option ℕ) (bytes : List ℕ) → Fair short (send_to o bytes)
-  sends None bytes = record { so = tt }
-  sends (Some p) bytes = record { so = tt }
-
-  takes : Fair short TakeDatagram
-  takes = record { so = tt }
-
-  reads : Fair short (Now why.Ask)
-  reads = record { so = tt }
-
-  refused : (f : CompanionFault) → Fair short (Ends (end_by f))
-  refused (fault.BadCii number reason) = record { so = tt }
-  refused _ = record { so = tt }
-
--- the end of a run is `Done` only where no reports are to be made
-hangs : (short any : Bool) (n : ℕ) (a b : Option ℕ)
-    → Fair short (hang_up a (hang_up b (Ends (cond short (cond any (driven.Spent n) (driven.Unreachable n))
-    driven.Done))))
-hangs short any n (Some p) b = record { so = tt }
-hangs short any n None (Some q) = record { so = tt }
-hangs true true n None None = record { so = tt }
-hangs true false n None None = record { so = tt }
-hangs false any n None None = record { so = refl }
-
--- after the end of a turn
-again : (short left : Bool) (rest : Due) → Fair short rest → Fair short (cond (short && left) (Now why.Turn) rest)
-again true true rest v = record { so = refl }
-again true false rest v = v
-again false left rest v = v
-
-ruleset fair = (either, after_text, after_dial, after_first, after_sending, sends, takes, reads, hangs, again)
-
-point_fair : (config : DriveConfig) (h : History) (p : Point) → Fair (is_short config h) (due_at config p h)
-point_fair config h (dues.Connected peer) = record { so = tt }
-point_fair config h dues.Arrived = record { so = tt }
-point_fair config h (dues.Called kind.Cii) = search fair depth 20
-point_fair config h (dues.Called _) = search fair depth 20
-point_fair config h _ = search fair depth 20
+point_fair : (config : DriveConfig) (h : History) (p : Point) → Verdict (is_short config h) (due_at config p h)
+point_fair config h (dues.Called kind.Cii) = grind arith
+point_fair config h (dues.Called _) = grind arith
+point_fair config h _ = grind arith
 
 settled : (config : DriveConfig) (h : History) → Verdict (is_short config h) (due config h)
-settled config h = (by (refusal h)).so
+settled config h = by (refusal h)
   where
-    by : (r : Option CompanionFault) → Fair (is_short config h) (unless_refused r (due_at config (point_of h) h))
+    by : (r : Option CompanionFault) → Verdict (is_short config h) (unless_refused r (due_at config (point_of h) h))
     by None = point_fair config h (point_of h)
-    by (Some f) = refused (is_short config h) f
-
--- one report more at most, and that in a turn
-with_one : (b : Bool) (report : Report) (reports : List Report) (n : ℕ) → length reports < n
-    → length (cond b (report ∷ reports) reports) ≤ n
-with_one true report reports n lt = omega (arith, lt)
-with_one false report reports n lt = omega (arith, lt)
+    by (Some f) = grind arith
 
 abbrev Within : DriveConfig → History → Type 0
 Within config h = length (due_reports config h) ≤ config.reports
 
-module _ (config : DriveConfig) (older : History) (w : Within config older) where
-  put : (call entries : History) → call ≡ entries → Within config (entries ++ older) → Within config (call ++ older)
-  put call entries is v = subst (λ (c : History). Within config (c ++ older)) (sym is) v
-
-  some_left : due config older ≡ Now why.Turn → length (due_reports config older) < config.reports
-  some_left e = ltb-true _ _ (subst (Verdict (is_short config older)) e (settled config older))
-
-  read : (y : Why) (reading : ℕ) (slept : Bool) → due config older ≡ Now y
-      → Within config (Clock y reading ∷ (sleep_entries slept ++ older))
-  read why.Turn reading true e = with_one _ _ _ _ (some_left e)
-  read why.Turn reading false e = with_one _ _ _ _ (some_left e)
-  read _ reading true e = w
-  read _ reading false e = w
-
-  call_within : (d : Due) → due config older ≡ d → (call : History) → MayAdd d call → Within config (call ++ older)
-  call_within (Now y) e call m = put call _ m.1 (read y m.0.reading m.0.slept e)
-  call_within (Dial k to) e call (inl m) = put call _ m.1 w
-  call_within (Dial k to) e call (inr m) = put call _ m.1 w
-  call_within Accept e call (None, is) = put call _ is w
-  call_within Accept e call (Some (peer, k), is) = put call _ is w
-  call_within TakeDatagram e call (room, None, is) = put call _ is w
-  call_within TakeDatagram e call (room, Some (peer, count), is) = put call _ is w
-  call_within (TakeText peer) e call (heard.Quiet, is) = put call _ is w
-  call_within (TakeText peer) e call (_, is) = put call _ is w
-  call_within (SendText peer bytes) e call (outcome.Sent, is) = put call _ is w
-  call_within (SendText peer bytes) e call (outcome.Gone, is) = put call _ is w
-  call_within (Ends end) e call m = absurd m
-  call_within _ e call m = put call _ m w
+-- one report more at most, and that in a turn
+call_within : (config : DriveConfig) (older : History) → Within config older → (d : Due)
+    → Verdict (is_short config older) d → (call : History) → MayAdd d call → Within config (call ++ older)
+call_within config older within d fair call may = grind (arith, nat_tests, within, fair, may)
 
 never_more : (config : DriveConfig) (history : History) → 1 ≤ config.reports → IsProperRun config history
     → Within config history
 never_more config [] some Empty = omega (arith, some)
 never_more config history some (More {older} call may p) =
-    call_within config older (never_more config older some p) (due config older) refl call may
+    call_within config older (never_more config older some p) (due config older) (settled config older) call may
 
 pub reports_as_asked : ReportsAreAsAsked
 reports_as_asked config history some p =

@@ -14,8 +14,8 @@ use Rattle.css_model.specs.History.{Dialled, Accepted, History, Entry, Slept, Cl
 use Rattle.css_model.specs.History.{Closed, Gone, Heard, Sent, request_in, NoneCame, accepted_answers, asking_at}
 use Rattle.css_model.specs.History.{is_sleep, landed_answer, request_by, Took}
 use Rattle.css_companion.specs.Meanings.{kind_of, opens_ts, is_ts, cii_text, closes_ts, ts_text}
-use Rattle.css_drive_relay.specs.Standing.{AreInOrder, Knows, Runs, Stops, HasRead, facts_in, stood, Stands}
-use Rattle.css_drive_relay.specs.Standing.{IsAt, IsStop, Stays, visiting}
+use Rattle.css_drive_relay.specs.Standing.{AreInOrder, Knows, Runs, Stops, HasRead, facts_in, stood, Stands, IsAt}
+use Rattle.css_drive_relay.specs.Standing.{IsStop, Stays, visiting}
 use Rattle.css_model.specs.declared.Why.{Why}
 use Rattle.css_model.specs.Explains.{IsLawful}
 use Rattle.css_outside.specs.Outsides.{Counts, with_entries, clock_entries, sleep_entries}
@@ -43,7 +43,6 @@ use Rattle.css_drive.specs.CompanionTurns.{goes_on, is_late}
 use Rattle.css_drive.proofs.CompanionEnds.{never_late, no_entries}
 use Rattle.css_outside.specs.Limits.{IsLimit, most_turns}
 use Rattle.css_outside.specs.declared.limit.Limit.{Limit}
-use Rattle.css_outside.specs.declared.limit.Limit.TheVariants.{Turns, Seconds}
 use Rattle.css_model.specs.WallClock.{Local}
 use Rattle.css_companion.specs.Standing.{Companion, own_of}
 use Rattle.css_companion.specs.declared.binding.Binding.TheVariants.{WallClock}
@@ -364,8 +363,7 @@ begins plan now live k e = stands_with (λ f. Asked []) e (record { runs = at_fi
 
 -- ---- turns
 some_turns : (limit : Limit) → IsLimit limit → 1 ≤ most_turns limit
-some_turns (Turns turns) range = range.0
-some_turns (Seconds seconds) range = omega arith
+some_turns limit range = grind (arith, range)
 
 -- the turns are over only once one was begun
 pub was_begun : (limit : Limit) → IsLimit limit → (first this : Option ℕ) (made : ℕ)
@@ -396,14 +394,7 @@ over {plan} {start} {now} {live} s none ended e =
 -- an unreachable one reached nobody
 pub unreached : (plan : Plan) (f : Facts) (turns : ℕ) → driven.Unreachable turns ≡ final plan f
     → (plan.begun.reached ≡ false) × (f.cii ≡ None)
-unreached plan f turns e = by plan.begun.reached f.cii refl refl e
-  where
-    by : (b : Bool) (o : Option ℕ) → plan.begun.reached ≡ b → f.cii ≡ o
-        → driven.Unreachable turns ≡ cond (b || is_some o) driven.Done (driven.Unreachable f.turns)
-        → (plan.begun.reached ≡ false) × (f.cii ≡ None)
-    by false None r c e = (r, c)
-    by true o r c e = absurd (cc)
-    by false (Some peer) r c e = absurd (cc)
+unreached plan f turns e = grind (arith, e)
 
 -- the first turn isn't the last by its time
 pub was_second : (limit : Limit) → IsLimit limit → (first : Option ℕ) (made reading : ℕ)
