@@ -1,19 +1,20 @@
 -- The laws of companions' runs.
 use Rattle.std.proofs.Common.{◌≡◌, ℕ, ◌≤◌, arith, suc, ap, sym, ◌∙◌, subst, refl, Bool, true, false, map, List, [], ◌∷◌}
 use Rattle.std.proofs.Common.{◌++◌, length, drop, Option, Some, None, Result, take}
-use Rattle.std.proofs.lemmas.Bool.{ltb-false}
+use Rattle.std.proofs.lemmas.Bool.{cond_both, ltb-false}
 use Rattle.std.proofs.lemmas.Bool.Decides.{nat_tests}
 use Rattle.std.specs.Prelude.{if◌then◌else◌, ◌||◌}
 use Rattle.css_model.specs.declared.Kind.{Kind}
 use Rattle.css_model.specs.declared.Kind.TheVariants as kind
 use Rattle.css_model.specs.declared.Why.TheVariants as why
 use Rattle.css_model.specs.History.{History, Clock, Slept, Sent, Dialled, Heard, Closed, Gone, LandedAnswer, just_taken}
-use Rattle.css_model.specs.History.{request_in, answer_in, requests, landed_answers, possible_answers}
+use Rattle.css_model.specs.History.{request_in, answer_in, requests, landed_answers, possible_answers, Address}
 use Rattle.css_companion.specs.declared.fault.CompanionFault.{CompanionFault}
 use Rattle.css_companion.specs.declared.report.Report.{Report}
 use Rattle.css_follow.specs.Following.{Seen, told, told_unless, ends_by}
 use Rattle.css_drive.specs.CompanionDue as dues
-use Rattle.css_drive.specs.CompanionDue.{Point, due, due_at, is_short, refusal, unless_refused, point_of, IsProperRun}
+use Rattle.css_drive.specs.CompanionDue.{dial_first, from_wc, from_end, Point, due, due_at, is_short, refusal}
+use Rattle.css_drive.specs.CompanionDue.{unless_refused, point_of, IsProperRun}
 use Rattle.css_drive.specs.CompanionLaws.{ReportsAreAsAsked, FollowersHear, HasHeard, EachHasHeard, Happening, Sleep}
 use Rattle.css_drive.specs.CompanionLaws.{Asks, Lands, TellsCii, TellsTs, BeginsTs, EndsTs, landing, text_of, end_of}
 use Rattle.css_drive.specs.CompanionLaws.{with_happening, happenings, SameEventsAreReportedAlike}
@@ -102,8 +103,21 @@ Verdict short (Now why.Turn) = short ≡ true
 Verdict short (Ends driven.Done) = short ≡ false
 Verdict short _ = Unit {0}
 
+first_fair : (short : Bool) (known : Option ℕ) (to : Address) (rest : Due) → Verdict short rest
+    → Verdict short (dial_first known to rest)
+first_fair short known to rest fair = grind (arith, fair)
+
+wc_fair : (config : DriveConfig) (h : History) → Verdict (is_short config h) (from_wc config h)
+wc_fair config h = grind arith
+
+end_fair : (config : DriveConfig) (h : History) → Verdict (is_short config h) (from_end config h)
+end_fair config h = grind arith
+
 point_fair : (config : DriveConfig) (h : History) (p : Point) → Verdict (is_short config h) (due_at config p h)
-point_fair config h (dues.Called kind.Cii) = grind arith
+point_fair config h dues.Begun =
+    cond_both _ _ _ (Verdict (is_short config h)) (λ _. first_fair (is_short config h) _ config.cii _
+    (wc_fair config h)) (λ _. end_fair config h)
+point_fair config h (dues.Called kind.Cii) = wc_fair config h
 point_fair config h (dues.Called _) = grind arith
 point_fair config h _ = grind arith
 

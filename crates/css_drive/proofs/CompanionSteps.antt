@@ -1,7 +1,11 @@
 -- How a run's history goes on by a call.
 use Rattle.std.proofs.Common.{◌≡◌, ℕ, ◌≤◌, ◌<◌, arith, ap, sym, ◌∙◌, subst, refl, Bool, true, false, cond, List, []}
 use Rattle.std.proofs.Common.{◌∷◌, ◌++◌, append_assoc, Option, Some, None, eq-eqb, inl, inr, Result, Ok, Err}
-use Rattle.std.specs.Prelude.{is_some, IfSome, MatchResult, IsErrAnd, ◌&&◌, ◌||◌, IfOk, ◌<◌}
+use Rattle.std.specs.Prelude.{OnOk, IfErr, is_some, IfSome, MatchResult, IsErrAnd, ◌&&◌, ◌||◌, IfOk, ◌<◌}
+use Rattle.css_drive.specs.CompanionStanding.{without, Shown, facts_of, KnowsPeers, Stands, Knows, KnowsUnder, Comes}
+use Rattle.css_drive.specs.CompanionStanding.{Stops, IsEndBy, IsSo, Fails, Adds, HasDialled, dial_entries, GivesPlace}
+use Rattle.css_drive.specs.CompanionStanding.{asked_after, IsRefusal, HasRead, Goes, IsDue, TakesIn, from_text}
+use Rattle.css_drive.specs.CompanionStanding.{after_text, kind_for, open_of, IsFault}
 use Rattle.std.proofs.lemmas.Bool.{ne_eqb, or_from}
 use Rattle.std.proofs.lemmas.Bool.Decides.{nat_tests}
 use Rattle.css_model.specs.declared.Kind.{Kind}
@@ -9,7 +13,7 @@ use Rattle.css_model.specs.declared.Failure.{Failure}
 use Rattle.css_model.specs.declared.Kind.TheVariants as kind
 use Rattle.css_model.specs.Explains.{IsLawful, IsJustAsked}
 use Rattle.css_model.specs.History.{Address, Dialling, Dialled, History, Entry, NotDialled, Took, Heard, is_sleep}
-use Rattle.css_model.specs.History.{asking_at, request_by, landed_answer, sleeps, Each}
+use Rattle.css_model.specs.History.{Closed, asking_at, request_by, landed_answer, sleeps, Each}
 use Rattle.css_outside.specs.Outsides.{with_entries, Counts, clock_entries, sleep_entries, heard_entries, wrote_entries}
 use Rattle.css_outside.specs.declared.fault.OutFault.{OutFault}
 use Rattle.css_companion.specs.Meanings.{kind_of, is_ts, is_cii, state_of, cii_text, ts_text, opens_ts, closes_ts}
@@ -17,10 +21,6 @@ use Rattle.css_companion.specs.Standing.{Companion}
 use Rattle.css_companion.specs.declared.config.CompanionConfig.{CompanionConfig}
 use Rattle.css_drive.specs.CompanionDue.{due, dial_to, place, from_cii, from_wc, from_ts, from_ask, from_take}
 use Rattle.css_drive.specs.CompanionDue.{from_ts_text, from_end, unless_refused, refusal_of}
-use Rattle.css_drive.specs.CompanionStanding.{Shown, facts_of, KnowsPeers, Stands, Knows, KnowsUnder, Comes, Stops}
-use Rattle.css_drive.specs.CompanionStanding.{IsEndBy, IsSo, Fails, Adds, HasDialled, dial_entries, GivesPlace}
-use Rattle.css_drive.specs.CompanionStanding.{asked_after, IsRefusal, HasRead, Goes, IsDue, TakesIn, from_text}
-use Rattle.css_drive.specs.CompanionStanding.{after_text, kind_for, open_of, IsFault}
 use Rattle.css_drive.specs.CompanionTurns.{dialled, dialled_by, opened, ended_by, open_after, newest, is_peer}
 use Rattle.css_drive.specs.CompanionTurns.{asked_turn, is_asking}
 use Rattle.css_drive.specs.Ends.{MayEnd, IsNetFault, CountsNetFault}
@@ -476,15 +476,35 @@ text_goes {config} {p = p} {bytes = bytes} {history = history} s lawful which k 
     (ends_by _ _ ended (heard which config p bytes history k) (refusal_ends _ _ ended refused))
 
 -- and so it is a stage that hears a session
-pub text_heard : {binding : Binding} {over : Option OutFault} {which : Session} {p : ℕ} {text : List ℕ} {old new : At}
-    → Adds old.shown new.shown (heard_entries p (answer.Text text)) → new.live ≡ old.live
+pub text_heard : {binding : Binding} (over : Option OutFault) (which : Session) {p : ℕ} {text : List ℕ} {old : At}
+    (new : At) → Adds old.shown new.shown (heard_entries p (answer.Text text)) → new.live ≡ old.live
     → (result : Result Bool Driven) → IfOk result (λ came. came ≡ true)
     → ((own : CompanionConfig) (h : History) → kind_of p h ≡ Some (kind_for which)
     → KnowsUnder binding own old.companion h → TakesIn binding own which p text h new.companion result)
     → HearsOnce binding over which (Some p) old new result
-text_heard {text = text} a live (Ok told) came takes =
+text_heard over which {text = text} new a live (Ok value) came takes =
     (answer.Text text, record { called = a; live = live; known = takes }, came)
-text_heard {text = text} a live (Err ended) came takes = inr (answer.Text text, a, live, takes)
+text_heard over which {text = text} new a live (Err ended) came takes = inr (answer.Text text, a, live, takes)
+
+-- the companion was told that a session is over, or memory ran out
+pub told_goes : {T : Type 0} {config : DriveConfig} {before now : Shown} {saw : List Note → Type 0} {live : Live}
+    {history : History} → Stands config before now saw live history → IsLawful history → (over : Option OutFault)
+    → (is : Companion) {at : History → Type 0} → at history → (result : Result T Driven)
+    → OnOk result (Knows config.companion is history) → IfErr result (λ ended. ended ≡ driven.Memory)
+    → Goes config before now saw over live is (λ _. at) result
+told_goes s lawful over is next (Ok value) told memory = comes s told _ next
+told_goes s lawful over is next (Err ended) told memory = stops_by_memory s lawful over ended memory
+
+pub closed_heard : {binding : Binding} (over : Option OutFault) (which : Session) {p : ℕ} {old : At} (new : At)
+    → Adds old.shown new.shown (heard_entries p answer.Closed) → new.live ≡ without p old.live
+    → (result : Result Bool Driven) → IfOk result (λ came. came ≡ false)
+    → IfErr result (λ ended. ended ≡ driven.Memory)
+    → ((own : CompanionConfig) (h : History) → kind_of p h ≡ Some (kind_for which)
+    → KnowsUnder binding own old.companion h → OnOk result (KnowsUnder binding own new.companion (Closed p ∷ h)))
+    → HearsOnce binding over which (Some p) old new result
+closed_heard over which new a live (Ok value) came memory knows =
+    (answer.Closed, record { called = a; live = live; known = λ own h is k. (refl, knows own h is k) }, came)
+closed_heard over which new a live (Err ended) came memory knows = inr (answer.Closed, a, live, λ own h is k. rw memory tt)
 
 -- ---- counts
 -- a call that went well and is no dial

@@ -449,15 +449,13 @@ module _ (run : TvRun) (older : History) (good : (other : ℕ) → Good run othe
   entry_good _ none numbered = good peer
 
 -- ---- the run
-pub numbered_rest : (call older : History) → AreNumbered (call ++ older) → AreNumbered older
-numbered_rest [] older n = n
-numbered_rest (Accepted peer k ∷ call) older n = numbered_rest call older n.1
-numbered_rest (_ ∷ call) older n = numbered_rest call older n
+pub numbered_rest : (entry : Entry) (older : History) → AreNumbered (entry ∷ older) → AreNumbered older
+numbered_rest entry older numbered = grind (arith, numbered)
 
 pub all_good : (run : TvRun) (h : History) → Followed run h → AreNumbered h → (peer : ℕ) → Good run peer h
 all_good run [] each numbered peer = record { lawful = (tt, tt); telling = Whole refl; unused = λ below. refl }
 all_good run (entry ∷ older) each numbered peer =
-    entry_good run older (all_good run older each.1 (numbered_rest (entry ∷ []) older numbered)) peer entry each.0
+    entry_good run older (all_good run older each.1 (numbered_rest entry older numbered)) peer entry each.0
     numbered
 
 -- what is unsent

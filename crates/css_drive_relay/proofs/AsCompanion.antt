@@ -86,10 +86,7 @@ module _ (live : Live) {plan : Plan} {start now : Shown} {history : History} {sp
     where
       by : (k : Kind) (tried : Result ℕ Failure) → ◌≡◌ {A = Progress} (steps.called k tried (facts_in live))
           (stood (record live { own = with_dial k tried live.own }) (Called k))
-      by k (Err failure) = refl
-      by kind.Cii (Ok q) = refl
-      by kind.Wc (Ok q) = refl
-      by kind.Ts (Ok q) = refl
+      by k tried = grind arith
 
   -- nothing was called
   same : (to : Facts → History → Due) {new : At} → new ≡ now_at now live
@@ -353,8 +350,7 @@ module _ (live : Live) {plan : Plan} {start now : Shown} {history : History}
     )
 
     memory : (ended : Driven) → IsRefusal None ended → ended ≡ driven.Memory
-    memory driven.Memory r = refl
-    memory _ r = absurd r
+    memory ended r = grind (arith, r)
 
     refused : (said : Answer) (ended : Driven) → companions.Adds now new.shown (heard_entries p said)
         → new.live ≡ with_answer p said live.own

@@ -343,7 +343,7 @@ module _ (plan : Plan) (peer : ℕ) (older : History) (t : Good plan peer older)
 all_good : (plan : Plan) (peer : ℕ) (h : History) → Followed plan h → AreNumbered h → Good plan peer h
 all_good plan peer [] each numbered = Over refl
 all_good plan peer (entry ∷ older) each numbered =
-    after plan peer older (all_good plan peer older each.1 (numbered_rest (entry ∷ []) older numbered)) entry each.0
+    after plan peer older (all_good plan peer older each.1 (numbered_rest entry older numbered)) entry each.0
     numbered
 
 -- where the end is due nothing is owed
