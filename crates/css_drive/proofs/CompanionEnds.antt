@@ -89,6 +89,7 @@ any_is (Dialled kind.Wc p ∷ h) = sym (or_right _ true refl)
 any_is (Dialled kind.Ts p ∷ h) = sym (or_right _ _ (or_right _ true refl))
 any_is (_ ∷ h) = any_is h
 
+-- one entry more
 none_counted : (reading first : Option ℕ) (made : ℕ) → (first ≡ None → made ≡ 0) → first_of reading first ≡ None
     → counted reading made ≡ 0
 none_counted reading first made none e = grind (arith, none, e)
@@ -222,6 +223,7 @@ pub final_dials : (over : Option OutFault) (before now : ℕ) (ended : Driven) �
     → before ≤ now → CountsDialFaults before now (final_end over ended)
 final_dials over before now ended c le = grind (arith, c, le)
 
+-- a run whose reports or turns are made
 ending_dials : (before now reports : ℕ) (live : Live) → before ≤ now
     → (live.reported < reports → live.cii ≡ None → HasRisen before now)
     → CountsDialFaults before now (ending_of reports live)
@@ -269,11 +271,12 @@ names_on n m = record {
 abbrev EndsSo : Due → ℕ → ℕ → Option OutFault → Driven → Type 0
 EndsSo due before now over ended = MayEnd due ended × IsEndOf over ended × CountsNetFault before now ended
 
+-- the observer has the last word
 ends_so : (due : Due) (before now : ℕ) (over : Option OutFault) (ended : Driven) → MayEnd due ended → IsSo over ended
     → CountsNetFault before now ended → EndsSo due before now over (final_end over ended)
 ends_so due before now over ended ends so counted = grind (arith, ends, so, counted)
 
--- the run stopped, and its observer has the last word
+-- the run stopped
 module _ (config : DriveConfig) (before now : Shown) (saw : List Note → Type 0) (over : Option OutFault)
     (ended result : Driven) (e : result ≡ final_end over ended) (s : Stops config before now saw over ended) where
   final_so : EndsSo (due config s.history) before.counts.faults now.counts.faults over result
@@ -374,6 +377,7 @@ tells_nothing over now is on =
 abbrev Are : List Report → List Note → Type 0
 Are reports notes = (reports_in notes ≡ reports) × AreNumbered notes
 
+-- one entry more
 note_so : (config : DriveConfig) (older : History) (from : Standpoint) (o : Option Event) (reading : Option ℕ)
     (notes : List Note) → Are (due_reports config older) notes
     → Are (reports.with_report config reading older (first_turn older) (due_reports config older))

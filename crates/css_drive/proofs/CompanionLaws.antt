@@ -1,31 +1,38 @@
 -- The laws of companions' runs.
 use Rattle.std.proofs.Common.{◌≡◌, ℕ, ◌≤◌, arith, suc, ap, sym, ◌∙◌, subst, refl, Bool, true, false, map, List, [], ◌∷◌}
-use Rattle.std.proofs.Common.{◌++◌, length, drop, Option, Some, None, Result, take}
+use Rattle.std.proofs.Common.{◌++◌, length, drop, Option, Some, None, Result, take, cond}
 use Rattle.std.proofs.lemmas.Bool.{cond_both, ltb-false}
 use Rattle.std.proofs.lemmas.Bool.Decides.{nat_tests}
-use Rattle.std.specs.Prelude.{if◌then◌else◌, ◌||◌}
+use Rattle.std.specs.Prelude.{if◌then◌else◌, ◌&&◌, not}
 use Rattle.css_model.specs.declared.Kind.{Kind}
 use Rattle.css_model.specs.declared.Kind.TheVariants as kind
 use Rattle.css_model.specs.declared.Why.TheVariants as why
-use Rattle.css_model.specs.History.{History, Clock, Slept, Sent, Dialled, Heard, Closed, Gone, LandedAnswer, just_taken}
-use Rattle.css_model.specs.History.{request_in, answer_in, requests, landed_answers, possible_answers, Address}
+use Rattle.css_model.specs.History.{Entry, History, LandedAnswer, request_in, answer_in, requests, landed_answers}
+use Rattle.css_model.specs.History.{possible_answers, Address}
 use Rattle.css_companion.specs.declared.fault.CompanionFault.{CompanionFault}
 use Rattle.css_companion.specs.declared.report.Report.{Report}
 use Rattle.css_follow.specs.Following.{Seen, told, told_unless, ends_by}
 use Rattle.css_drive.specs.CompanionDue as dues
-use Rattle.css_drive.specs.CompanionDue.{dial_first, from_wc, from_end, Point, due, due_at, is_short, refusal}
-use Rattle.css_drive.specs.CompanionDue.{unless_refused, point_of, IsProperRun}
+use Rattle.css_drive.specs.CompanionDue.{dial_to, sending, take_text, from_ts, from_ask, dial_first, from_wc, from_end}
+use Rattle.css_drive.specs.CompanionDue.{Point, due, due_at, is_short, refusal, unless_refused, point_of, IsProperRun}
+use Rattle.css_drive.specs.CompanionDue.{from_cii, from_ts_text}
+use Rattle.css_address.specs.declared.fault.AddressFault.{AddressFault}
+use Rattle.css_cii.specs.declared.name.CiiName.{CiiName}
+use Rattle.css_cii.specs.declared.name.CiiName.TheVariants.{WcUrl, TsUrl}
+use Rattle.css_drive.specs.CompanionTurns.{is_late, first_turn, this_turn, dialled, opened}
+use Rattle.css_companion.specs.Meanings.{kind_of, is_ts, counted, merged_with, texts_of, state_of, control_by}
+use Rattle.css_companion.specs.Meanings.{is_closed}
 use Rattle.css_drive.specs.CompanionLaws.{ReportsAreAsAsked, FollowersHear, HasHeard, EachHasHeard, Happening, Sleep}
-use Rattle.css_drive.specs.CompanionLaws.{Asks, Lands, TellsCii, TellsTs, BeginsTs, EndsTs, landing, text_of, end_of}
-use Rattle.css_drive.specs.CompanionLaws.{with_happening, happenings, SameEventsAreReportedAlike}
+use Rattle.css_drive.specs.CompanionLaws.{Asks, Lands, TellsCii, TellsTs, BeginsTs, EndsTs, happenings}
+use Rattle.css_drive.specs.CompanionLaws.{SameEventsAreReportedAlike}
 use Rattle.css_drive.specs.CompanionReports.{due_reports}
 use Rattle.css_drive.specs.CompanionRun.{after_all}
 use Rattle.css_follow.specs.Listening.{Listener, hearing, words_of}
-use Rattle.css_drive.specs.Proper.{Due, Now, Ends, MayAdd, Empty, More}
+use Rattle.css_drive.specs.Proper.{Due, Now, TakeDatagram, Ends, MayAdd, Empty, More}
 use Rattle.css_drive.specs.declared.config.DriveConfig.{DriveConfig}
 use Rattle.css_drive.specs.declared.driven.Driven.TheVariants as driven
 use Rattle.std.specs.List.{list_any}
-use Rattle.std.specs.Option.{option_and_then, option_map, option_or, option_to_list}
+use Rattle.std.specs.Option.{option_and_then, option_map, option_to_list}
 use Rattle.css_num.specs.declared.control.Control.{Control}
 use Rattle.css_model.specs.declared.Stamp.{Stamp}
 use Rattle.css_model.specs.declared.Message.{Message}
@@ -35,8 +42,6 @@ use Rattle.css_cii.specs.States.{empty}
 use Rattle.css_cii.specs.declared.state.State.{State}
 use Rattle.css_tsmsg.specs.Controls.{control_of}
 use Rattle.css_tsmsg.specs.declared.fault.TsFault.{TsFault}
-use Rattle.css_companion.specs.Meanings.{kind_of, is_cii, is_ts, counted, merged_with, texts_of, state_of, control_by}
-use Rattle.css_companion.specs.Meanings.{is_closed}
 use Rattle.css_companion.specs.Printed.{line_of}
 use Rattle.css_companion.specs.Reports.{timing_of, report_by, assigned_by}
 use Rattle.css_companion.specs.TimelineRates.{rate_of}
@@ -103,23 +108,52 @@ Verdict short (Now why.Turn) = short ≡ true
 Verdict short (Ends driven.Done) = short ≡ false
 Verdict short _ = Unit {0}
 
-first_fair : (short : Bool) (known : Option ℕ) (to : Address) (rest : Due) → Verdict short rest
-    → Verdict short (dial_first known to rest)
-first_fair short known to rest fair = grind (arith, fair)
+-- what comes before something for which that holds
+module _ (short : Bool) (rest : Due) (fair : Verdict short rest) where
+  first_fair : (known : Option ℕ) (to : Address) → Verdict short (dial_first known to rest)
+  first_fair known to = grind (arith, fair)
 
-wc_fair : (config : DriveConfig) (h : History) → Verdict (is_short config h) (from_wc config h)
-wc_fair config h = grind arith
+  dial_fair : (known : Option ℕ) (k : Kind) (property : CiiName) (told : Option (Result Address AddressFault))
+      → Verdict short (dial_to known k property told rest)
+  dial_fair known k property told = grind (arith, fair)
 
-end_fair : (config : DriveConfig) (h : History) → Verdict (is_short config h) (from_end config h)
-end_fair config h = grind arith
+  setup_fair : (peer : ℕ) (text : Option (List ℕ)) → Verdict short (sending peer text rest)
+  setup_fair peer text = grind (arith, fair)
 
-point_fair : (config : DriveConfig) (h : History) (p : Point) → Verdict (is_short config h) (due_at config p h)
-point_fair config h dues.Begun =
-    cond_both _ _ _ (Verdict (is_short config h)) (λ _. first_fair (is_short config h) _ config.cii _
-    (wc_fair config h)) (λ _. end_fair config h)
-point_fair config h (dues.Called kind.Cii) = wc_fair config h
-point_fair config h (dues.Called _) = grind arith
-point_fair config h _ = grind arith
+  -- what follows the dials
+  take_fair : (asks takes : Bool) (cii ts : Option ℕ)
+      → Verdict short (cond asks (Now why.Ask) (cond takes TakeDatagram (take_text cii (take_text ts rest))))
+  take_fair asks takes cii ts = grind (arith, fair)
+
+module _ (config : DriveConfig) (h : History) where
+  end_fair : Verdict (is_short config h) (from_end config h)
+  end_fair = grind arith
+
+  ask_fair : Verdict (is_short config h) (from_ask config h)
+  ask_fair = take_fair _ (from_end config h) end_fair _ _ _ _
+
+  ts_fair : Verdict (is_short config h) (from_ts config h)
+  ts_fair = dial_fair _ (from_ask config h) ask_fair _ kind.Ts TsUrl _
+
+  wc_fair : Verdict (is_short config h) (from_wc config h)
+  wc_fair = dial_fair _ (from_ts config h) ts_fair _ kind.Wc WcUrl _
+
+  point_fair : (p : Point) → Verdict (is_short config h) (due_at config p h)
+  point_fair dues.Start = end_fair
+  point_fair dues.Begun =
+      cond_both (is_short config h && not (is_late config.limit (first_turn h) (this_turn h))) (from_cii config h)
+      (from_end config h) (Verdict (is_short config h))
+      (λ _. first_fair _ (from_wc config h) wc_fair (dialled kind.Cii h) config.cii) (λ _. end_fair)
+  point_fair (dues.Called kind.Cii) = wc_fair
+  point_fair (dues.Called kind.Wc) = ts_fair
+  point_fair (dues.Called kind.Ts) = ask_fair
+  point_fair (dues.SetUp peer) = setup_fair _ (from_ask config h) ask_fair peer _
+  point_fair dues.Requested = take_fair _ (from_end config h) end_fair false _ _ _
+  point_fair dues.Received = take_fair _ (from_end config h) end_fair false false _ _
+  point_fair (dues.HeardFrom peer) =
+      cond_both (is_ts (kind_of peer h)) (from_end config h) (from_ts_text config h) (Verdict (is_short config h))
+      (λ _. end_fair) (λ _. take_fair _ (from_end config h) end_fair false false None (opened kind.Ts h))
+  point_fair _ = grind arith
 
 settled : (config : DriveConfig) (h : History) → Verdict (is_short config h) (due config h)
 settled config h = by (refusal h)
@@ -175,66 +209,33 @@ known_of h = record {
   ended = is_closed h;
 }
 
--- what is known after a datagram that was taken, if one was, and after a text of a session of this kind, and its end
-abbrev landed_at : Option (List ℕ) → ℕ → Known → Known
-landed_at taken reading x = record x {
-  landed = option_to_list (option_map (λ m. record { message = m; reading = reading }) (option_and_then
-      (λ (m : Message). if list_any (λ stamp. is_same_stamp stamp m.originate) (take 64 x.asks) then Some m
-      else None) (option_and_then answer_in taken))) ++ x.landed;
-}
-
-abbrev told_by : Option Kind → List ℕ → Known → Known
-told_by k bytes x = record x {
-  texts = counted (if is_cii k then Some bytes else None) x.texts;
-  state = merged_with (if is_cii k then Some bytes else None) x.texts x.state;
-  control = option_or (option_map control_of (if is_ts k then Some bytes else None)) x.control;
-}
-
-abbrev ended_by : Option Kind → Known → Known
-ended_by k x = record x { ended = is_ts k || x.ended }
-
--- ---- the same, as the happenings have it
+-- the same, as a happening has it
 abbrev after_it : Happening → Known → Known
 after_it Sleep x = record x { asks = []; landed = [] }
 after_it (Asks bytes) x =
     record x { asks = option_to_list (option_map (λ (m : Message). m.originate) (request_in bytes)) ++ x.asks }
-after_it (Lands bytes reading) x = landed_at (Some bytes) reading x
-after_it (TellsCii bytes) x = told_by (Some kind.Cii) bytes x
-after_it (TellsTs bytes) x = told_by (Some kind.Ts) bytes x
+after_it (Lands bytes reading) x = record x {
+  landed = option_to_list (option_map (λ m. record { message = m; reading = reading }) (option_and_then
+      (λ (m : Message). if list_any (λ stamp. is_same_stamp stamp m.originate) (take 64 x.asks) then Some m
+      else None) (answer_in bytes))) ++ x.landed;
+}
+after_it (TellsCii bytes) x =
+    record x { texts = counted (Some bytes) x.texts; state = merged_with (Some bytes) x.texts x.state }
+after_it (TellsTs bytes) x = record x { control = Some (control_of bytes) }
 after_it BeginsTs x = record x { control = None; ended = false }
-after_it EndsTs x = ended_by (Some kind.Ts) x
+after_it EndsTs x = record x { ended = true }
 
 abbrev known_in : List Happening → Known
 known_in [] = record { asks = []; landed = []; texts = 0; state = empty; control = None; ended = false }
 known_in (happening ∷ earlier) = after_it happening (known_in earlier)
 
--- ---- entries that may be no happening
-landing_same : (taken : Option (List ℕ)) (reading : ℕ) (earlier : List Happening) (x : Known) → x ≡ known_in earlier
-    → landed_at taken reading x ≡ known_in (with_happening (landing taken reading) earlier)
-landing_same None reading earlier x e = e
-landing_same (Some bytes) reading earlier x e = ap (after_it (Lands bytes reading)) e
-
-text_same : (k : Option Kind) (bytes : List ℕ) (earlier : List Happening) (x : Known) → x ≡ known_in earlier
-    → told_by k bytes x ≡ known_in (with_happening (text_of k bytes) earlier)
-text_same (Some kind.Cii) bytes earlier x e = ap (after_it (TellsCii bytes)) e
-text_same (Some kind.Ts) bytes earlier x e = ap (after_it (TellsTs bytes)) e
-text_same _ bytes earlier x e = e
-
-end_same : (k : Option Kind) (earlier : List Happening) (x : Known) → x ≡ known_in earlier
-    → ended_by k x ≡ known_in (with_happening (end_of k) earlier)
-end_same (Some kind.Ts) earlier x e = ap (after_it EndsTs) e
-end_same _ earlier x e = e
+known_more : (entry : Entry) (older : History) → known_of older ≡ known_in (happenings older)
+    → known_of (entry ∷ older) ≡ known_in (happenings (entry ∷ older))
+known_more entry older e = grind (arith, e)
 
 known_same : (h : History) → known_of h ≡ known_in (happenings h)
 known_same [] = refl
-known_same (Slept ∷ older) = ap (after_it Sleep) (known_same older)
-known_same (Sent peer bytes ∷ older) = ap (after_it (Asks bytes)) (known_same older)
-known_same (Clock why.Land reading ∷ older) = landing_same (just_taken older) reading _ _ (known_same older)
-known_same (Heard peer bytes ∷ older) = text_same (kind_of peer older) bytes _ _ (known_same older)
-known_same (Closed peer ∷ older) = end_same (kind_of peer older) _ _ (known_same older)
-known_same (Gone peer ∷ older) = end_same (kind_of peer older) _ _ (known_same older)
-known_same (Dialled kind.Ts peer ∷ older) = ap (after_it BeginsTs) (known_same older)
-known_same (_ ∷ older) = known_same older
+known_same (entry ∷ older) = known_more entry older (known_same older)
 
 -- ---- the report
 pub same_events : SameEventsAreReportedAlike

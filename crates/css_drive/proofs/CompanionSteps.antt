@@ -1,9 +1,9 @@
 -- How a run's history goes on by a call.
 use Rattle.std.proofs.Common.{◌≡◌, ℕ, ◌≤◌, ◌<◌, arith, ap, sym, ◌∙◌, subst, refl, Bool, true, false, cond, List, []}
 use Rattle.std.proofs.Common.{◌∷◌, ◌++◌, append_assoc, Option, Some, None, eq-eqb, inl, inr, Result, Ok, Err}
-use Rattle.std.specs.Prelude.{OnOk, IfErr, is_some, IfSome, MatchResult, IsErrAnd, ◌&&◌, ◌||◌, IfOk, ◌<◌}
-use Rattle.css_drive.specs.CompanionStanding.{without, Shown, facts_of, KnowsPeers, Stands, Knows, KnowsUnder, Comes}
-use Rattle.css_drive.specs.CompanionStanding.{Stops, IsEndBy, IsSo, Fails, Adds, HasDialled, dial_entries, GivesPlace}
+use Rattle.std.specs.Prelude.{is_some, IfSome, MatchResult, IsErrAnd, ◌&&◌, ◌||◌, IfOk, ◌<◌}
+use Rattle.css_drive.specs.CompanionStanding.{Shown, facts_of, KnowsPeers, Stands, Knows, KnowsUnder, Comes, Stops}
+use Rattle.css_drive.specs.CompanionStanding.{IsEndBy, IsSo, Fails, Adds, HasDialled, dial_entries, GivesPlace}
 use Rattle.css_drive.specs.CompanionStanding.{asked_after, IsRefusal, HasRead, Goes, IsDue, TakesIn, from_text}
 use Rattle.css_drive.specs.CompanionStanding.{after_text, kind_for, open_of, IsFault}
 use Rattle.std.proofs.lemmas.Bool.{ne_eqb, or_from}
@@ -61,19 +61,15 @@ told_more (Some h) old new call history e f =
     f ∙ ap (λ o. with_entries call o) e ∙ ap Some (sym (append_assoc call history h))
 
 -- ---- peers
-dialled_peer : (n q : ℕ) (k : Kind) (to : Address) (history : History) (wanted : Kind) (peer : ℕ) → n < q
-    → (dialled wanted history ≡ Some peer → (peer ≤ n) × (kind_of peer history ≡ Some wanted))
-    → dialled wanted (Dialled k q ∷ Dialling k to ∷ history) ≡ Some peer
-    → (peer ≤ q) × (kind_of peer (Dialled k q ∷ Dialling k to ∷ history) ≡ Some wanted)
-dialled_peer n q k to history wanted peer lt known e = grind (arith, nat_tests, lt, known, e)
-
 pub peers_later : (n m : ℕ) (history : History) → n ≤ m → KnowsPeers n history → KnowsPeers m history
 peers_later n m history le k = λ wanted peer e. (omega (arith, le, (k wanted peer e).0), (k wanted peer e).1)
 
 peers_dialled : (n q : ℕ) (k : Kind) (to : Address) (history : History) → KnowsPeers n history → n < q
     → KnowsPeers q (Dialled k q ∷ Dialling k to ∷ history)
-peers_dialled n q k to history known lt wanted peer e = dialled_peer n q k to history wanted peer lt (known wanted peer) e
+peers_dialled n q k to history known lt wanted peer e =
+    let was = known wanted peer in grind (arith, nat_tests, lt, was, e)
 
+-- what is open after an entry was dialled last, if what was open before was
 open_last : (new ended was first : Option ℕ) (p : ℕ) → (was ≡ Some p → first ≡ Some p)
     → open_after new ended was ≡ Some p → newest new first ≡ Some p
 open_last new ended was first p older e = grind (arith, older, e)
@@ -485,26 +481,6 @@ pub text_heard : {binding : Binding} (over : Option OutFault) (which : Session) 
 text_heard over which {text = text} new a live (Ok value) came takes =
     (answer.Text text, record { called = a; live = live; known = takes }, came)
 text_heard over which {text = text} new a live (Err ended) came takes = inr (answer.Text text, a, live, takes)
-
--- the companion was told that a session is over, or memory ran out
-pub told_goes : {T : Type 0} {config : DriveConfig} {before now : Shown} {saw : List Note → Type 0} {live : Live}
-    {history : History} → Stands config before now saw live history → IsLawful history → (over : Option OutFault)
-    → (is : Companion) {at : History → Type 0} → at history → (result : Result T Driven)
-    → OnOk result (Knows config.companion is history) → IfErr result (λ ended. ended ≡ driven.Memory)
-    → Goes config before now saw over live is (λ _. at) result
-told_goes s lawful over is next (Ok value) told memory = comes s told _ next
-told_goes s lawful over is next (Err ended) told memory = stops_by_memory s lawful over ended memory
-
-pub closed_heard : {binding : Binding} (over : Option OutFault) (which : Session) {p : ℕ} {old : At} (new : At)
-    → Adds old.shown new.shown (heard_entries p answer.Closed) → new.live ≡ without p old.live
-    → (result : Result Bool Driven) → IfOk result (λ came. came ≡ false)
-    → IfErr result (λ ended. ended ≡ driven.Memory)
-    → ((own : CompanionConfig) (h : History) → kind_of p h ≡ Some (kind_for which)
-    → KnowsUnder binding own old.companion h → OnOk result (KnowsUnder binding own new.companion (Closed p ∷ h)))
-    → HearsOnce binding over which (Some p) old new result
-closed_heard over which new a live (Ok value) came memory knows =
-    (answer.Closed, record { called = a; live = live; known = λ own h is k. (refl, knows own h is k) }, came)
-closed_heard over which new a live (Err ended) came memory knows = inr (answer.Closed, a, live, λ own h is k. rw memory tt)
 
 -- ---- counts
 -- a call that went well and is no dial

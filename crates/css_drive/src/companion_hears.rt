@@ -1,6 +1,5 @@
 //! What a turn of a companion asks and hears, and the end of its sessions.
 ghost use Rattle.std.specs.Prelude.{◌≡◌, ◌≤◌, ◌∷◌, ◌⊎◌, ℕ, None, Some, OnOk, IfOk, IfErr, MatchResult, true};
-ghost use Rattle.std.specs.Prelude.{false};
 ghost use Rattle.css_model.specs.History.{History, Closed, Took};
 ghost use Rattle.css_model.specs.declared.Why.TheVariants as whys;
 ghost use Rattle.css_companion.specs.Meanings.{kind_of};
@@ -52,24 +51,17 @@ fn take_in(
     }
 }
 
-/// Tells the companion that a session is over, and that no text came.
-fn let_go(companion: &mut Companion, binding: Binding, session: Session) -> Result<bool, Driven>
+/// Tells the companion that a session is over.
+fn let_go(companion: &mut Companion, binding: Binding, session: Session) -> Result<(), Driven>
     ensures told { (own : CompanionConfig) → (peer : ℕ) → (history : History)
         → kind_of peer history ≡ Some (kind_for session) → KnowsUnder binding own companion.old history
         → OnOk result (KnowsUnder binding own companion.new (Closed peer ∷ history)) }
-    ensures came { IfOk result (λ came. came ≡ false) }
     ensures err { IfErr result (λ ended. ended ≡ Driven.Memory) }
     ensures same { companion.new.client ≡ companion.old.client }
 {
     match session {
-        Session::Cii => {
-            tell(companion, binding, CompanionEvent::CiiClosed)?;
-            Ok(false)
-        }
-        Session::Ts => {
-            tell(companion, binding, CompanionEvent::TsClosed)?;
-            Ok(false)
-        }
+        Session::Cii => tell(companion, binding, CompanionEvent::CiiClosed),
+        Session::Ts => tell(companion, binding, CompanionEvent::TsClosed),
     }
 }
 
@@ -191,7 +183,8 @@ impl<O: Outside, W: Observes> Run<'_, O, W> {
             Heard::Closed => {
                 self.observer.closed(session);
                 self.live.close(peer);
-                let_go(self.companion, binding, session)
+                let_go(self.companion, binding, session)?;
+                Ok(false)
             }
         }
     }

@@ -274,10 +274,7 @@ module _ (live : Live) {plan : Plan} {start now : Shown} {history : History}
       → closed ≡ (is_some live.own.cii_open && not (is_some new.live.cii_open))
       → IsAt (goes_on_at (λ f. Asked f.peers) (not closed)) plan start new.shown
       (cut_if closed (parting.Closed session.Cii) (with_at live new))
-  closed_if (inl quiet) true e = absurd (still_open live.own.cii_open new.live.cii_open quiet.1 e)
-  closed_if (inl quiet) false e = quiet.0
-  closed_if (inr closed) true e = closed.0
-  closed_if (inr closed) false e = absurd (is_shut live.own.cii_open new.live.cii_open closed.1 closed.2 e)
+  closed_if found closed e = grind (arith, found, e)
 
   module _ (p : ℕ) (e : live.own.cii_open ≡ Some p) where
     asked : Stands plan start now live.relay (stood live (Welcomed p)) history

@@ -88,6 +88,7 @@ has_last : (peer other : ℕ) (peers : List ℕ)
 has_last peer other [] = grind arith
 has_last peer other (p ∷ ps) = let ih = has_last peer other ps in grind (arith, ih)
 
+-- an entry more
 after : (plan : Plan) (peer : ℕ) (entry : Entry) (older : History) → IsKnown peer older (progress_of plan older)
     → IsKnown peer (entry ∷ older) (progress_of plan (entry ∷ older))
 after plan peer entry older k =

@@ -145,12 +145,7 @@ module _ {plan : Plan} {start now : Shown} {live : Live} {ended : Driven} (x : S
   module _ (not_fault : IsFault ended → ⊥) where
     -- what the variables say is what the calls say
     facts : facts_in live ≡ (progress_of plan x.history).facts
-    facts = by x.known
-      where
-        by : IsFault ended ⊎ (facts_in live ≡ (progress_of plan x.history).facts)
-            → facts_in live ≡ (progress_of plan x.history).facts
-        by (inl fault) = absurd (not_fault fault)
-        by (inr e) = e
+    facts = let known = x.known in grind (arith, not_fault, known)
 
     -- a hang-up failed
     pub unhung : {next : Shown} {fault : Driven} → Hangs now next (hang_ups (facts_in live)) (Err fault)

@@ -88,13 +88,7 @@ same {states} {state} {s} {sent} {gone} {kept} {n} {owed} {texts} t e f g =
 opens : {states : Option SessionStates} {state : State} {sent : List (List ℕ)} {gone : Bool} {kept : ℕ}
     → Tells states state sent gone kept [] → states ≡ None → (last : State) → state ≡ last
     → Tells (Some (record { opening = last; later = [] })) state sent gone (suc kept) (full_text state ∷ [])
-opens (Whole c e) none last is = absurd (let some = c.1 in cc)
-opens {sent = sent} (Lost text e) none last is =
-    absurd (let f : [] ≡ text ∷ sent = sym (ap texts_told none) ∙ e in cc)
-opens {state = state} (Over e) none last is =
-    Owed (record { opening = last; later = [] }, refl, sym is) (full_text state)
-    (ap (λ (s : State). full_text s ∷ []) (sym is)
-    ∙ ap (λ xs. full_text state ∷ xs) (sym (ap texts_told none) ∙ e))
+opens t none last is = grind (arith, t, none, is, Owed)
 
 -- ---- sending
 -- a text that is owed was sent
@@ -156,20 +150,7 @@ publishes : {states : Option SessionStates} {sent : List (List ℕ)} {gone : Boo
     → Tells states state sent gone kept [] → (s : State)
     → Tells (with_state (while_open (Some s) (any kept)) states) s sent gone kept
     (owed_by (difference_text state s) kept)
-publishes {states} {sent} {state = state} (Over e) s =
-    subst (λ (xs : List (List ℕ)). Tells states s sent false zero xs) (none_by (difference_text state s)) (Over e)
-publishes {states} {sent} {state = state} (Lost text e) s =
-    subst (λ (xs : List (List ℕ)). Tells states s sent true zero xs) (none_by (difference_text state s)) (Lost text e)
-publishes {states} {sent} {state = state} (Whole c e) s =
-    let was : SessionStates = c.0 in
-    owes (
-      record { opening = was.opening; later = s ∷ was.later },
-      ap (λ (x : Option SessionStates). with_state (Some s) x) c.1,
-      refl,
-    ) (difference_text state s)
-    (ap (λ (x : Option SessionStates). texts_told (with_state (Some s) x)) c.1
-    ∙ ap (λ (x : State). with_text (difference_text x s) (cii_texts was.opening was.later)) c.2
-    ∙ ap (with_text (difference_text state s)) (sym (ap texts_told c.1) ∙ e))
+publishes t s = grind (arith, t, Whole, Owed, Over, Lost)
 
 -- ---- what was published
 after_state : (plan : Plan) (older : History) (entry : Entry)
