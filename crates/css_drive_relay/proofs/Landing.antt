@@ -1,5 +1,5 @@
 -- What a relay's run makes of a datagram that lands.
-use Rattle.std.proofs.Common.{◌≡◌, ◌∙◌, ap, sym, subst, refl, ℕ, List, [], ◌∷◌, ◌++◌, Bool, true, false, inl}
+use Rattle.std.proofs.Common.{arith, ◌≡◌, ◌∙◌, ap, sym, subst, refl, ℕ, List, [], ◌∷◌, ◌++◌, Bool, true, false, inl}
 use Rattle.std.specs.Prelude.{is_some, not}
 use Rattle.css_agree.specs.Disagreements.{contradicts}
 use Rattle.css_agree.specs.Keeping.{Kept}

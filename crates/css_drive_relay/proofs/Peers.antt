@@ -1,11 +1,11 @@
 -- The sessions that a relay's run names were accepted, and that of the television was dialled: peers have rising
 -- numbers.
 use Rattle.std.proofs.Common.{◌≡◌, ℕ, ◌≤◌, ◌<◌, arith, refl, Bool, true, false, List, [], ◌∷◌, ◌++◌, Option, Some, None}
-use Rattle.std.specs.Prelude.{◌==◌, ◌||◌, IfSome}
+use Rattle.std.specs.Prelude.{◌==◌, ◌||◌, IfSome, ⊤}
 use Rattle.std.proofs.lemmas.Bool.Decides.{nat_tests}
 use Rattle.css_model.specs.declared.Kind.{Kind}
 use Rattle.css_model.specs.declared.Kind.TheVariants as kind
-use Rattle.css_model.specs.History.{Accepted, Dialled, Entry, History}
+use Rattle.css_model.specs.History.{Accepted, Closed, Dialled, Entry, Gone, Heard, History}
 use Rattle.css_companion.specs.Meanings.{kind_of}
 use Rattle.css_drive.specs.TvRan.{AreBelow, AreNumbered}
 use Rattle.css_drive_relay.specs.Places.{Asked, Dropping, Greeting, Place, Progress, Telling, progress_of, without}
@@ -88,16 +88,40 @@ has_last : (peer other : ℕ) (peers : List ℕ)
 has_last peer other [] = grind arith
 has_last peer other (p ∷ ps) = let ih = has_last peer other ps in grind (arith, ih)
 
--- an entry more
-after : (plan : Plan) (peer : ℕ) (entry : Entry) (older : History) → IsKnown peer older (progress_of plan older)
-    → IsKnown peer (entry ∷ older) (progress_of plan (entry ∷ older))
-after plan peer entry older k =
-    let last = λ (q : ℕ). has_last peer q (progress_of plan older).facts.peers in
-    let left = λ (q : ℕ). has_left peer q (progress_of plan older).facts.peers in grind (arith, k, last, left)
+-- an entry by which no session comes or goes
+abbrev pub IsKept : Entry → Type 0
+IsKept (Accepted peer kind) = ⊥
+IsKept (Heard peer bytes) = ⊥
+IsKept (Closed peer) = ⊥
+IsKept (Gone peer) = ⊥
+IsKept _ = ⊤
+
+module _ (plan : Plan) (peer : ℕ) (older : History) (k : IsKnown peer older (progress_of plan older)) where
+  abbrev Next : Entry → Type 0
+  Next entry = IsKnown peer (entry ∷ older) (progress_of plan (entry ∷ older))
+
+  after_kept : (entry : Entry) → IsKept entry → Next entry
+  after_kept entry is = grind (arith, is, k)
+
+  after_accepted : (q : ℕ) (which : Kind) → Next (Accepted q which)
+  after_accepted q which = let last = has_last peer q (progress_of plan older).facts.peers in grind (arith, k, last)
+
+  after_heard : (q : ℕ) (bytes : List ℕ) → Next (Heard q bytes)
+  after_heard q bytes = let left = has_left peer q (progress_of plan older).facts.peers in grind (arith, k, left)
+
+  after_closed : (q : ℕ) → Next (Closed q)
+  after_closed q = let left = has_left peer q (progress_of plan older).facts.peers in grind (arith, k, left)
+
+  after_gone : (q : ℕ) → Next (Gone q)
+  after_gone q = let left = has_left peer q (progress_of plan older).facts.peers in grind (arith, k, left)
 
 known : (plan : Plan) (peer : ℕ) (h : History) → IsKnown peer h (progress_of plan h)
 known plan peer [] = (refl, refl)
-known plan peer (entry ∷ older) = after plan peer entry older (known plan peer older)
+known plan peer (Accepted q which ∷ older) = after_accepted plan peer older (known plan peer older) q which
+known plan peer (Heard q bytes ∷ older) = after_heard plan peer older (known plan peer older) q bytes
+known plan peer (Closed q ∷ older) = after_closed plan peer older (known plan peer older) q
+known plan peer (Gone q ∷ older) = after_gone plan peer older (known plan peer older) q
+known plan peer (entry ∷ older) = after_kept plan peer older (known plan peer older) entry tt
 
 first_has : (peer : ℕ) (left peers : List ℕ) (b : Bool) → peers ≡ peer ∷ left → implies (has peer peers) b ≡ true
     → b ≡ true

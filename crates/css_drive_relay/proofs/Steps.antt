@@ -137,7 +137,7 @@ stops_so {plan} {start} {now} {next} {live} {p} {history} {ended} s l told count
   visited = λ hung. record {
     proper = s.proper;
     lawful = l;
-    numbered = (peers.numbered _ (now.counts.peers + 1) history s.ordered (omega arith)).1;
+    numbered = s.numbered;
     ends = subst (λ (x : Progress). MayEnd (due_for plan history x) ended) (sym s.progress) ends;
   };
   counted = subst (λ (n : ℕ). CountsNetFault n next.counts.faults ended) s.faults counted;
@@ -187,6 +187,7 @@ module _ {plan : Plan} {start now next : Shown} {p : Progress} {history : Histor
     proper = More call (may_as (ap (due_for plan history) s.progress) call may) s.proper;
     progress = progress;
     ordered = ordered;
+    numbered = (peers.numbered _ (next.counts.peers + 1) (call ++ history) ordered (omega arith)).1;
   }
 
   -- one entry is added
@@ -353,6 +354,7 @@ at_first plan now = record {
   proper = Empty;
   progress = refl;
   ordered = tt;
+  numbered = tt;
 }
 
 pub begins : (plan : Plan) (now : Shown) (live : Live) → Knows plan live.relay []

@@ -6,7 +6,7 @@ use Rattle.std.proofs.lemmas.Bool.{cond_both}
 use Rattle.std.proofs.lemmas.Bool.Decides.{nat_tests}
 use Rattle.css_cii.specs.declared.state.State.{State}
 use Rattle.css_sessions.specs.Kept.{difference_text, full_text}
-use Rattle.css_sessions.specs.Told.{latest, with_text, cii_texts}
+use Rattle.css_sessions.specs.Told.{latest, with_text}
 use Rattle.css_drive.specs.TvTold.{lost, sent_to, is_gone}
 use Rattle.css_drive.proofs.TvTold.{numbered_rest}
 use Rattle.css_drive_relay.specs.Places.{Place, Facts, Progress, telling_if, without, opened_if, published, Welcomed}
@@ -88,7 +88,13 @@ same {states} {state} {s} {sent} {gone} {kept} {n} {owed} {texts} t e f g =
 opens : {states : Option SessionStates} {state : State} {sent : List (List ℕ)} {gone : Bool} {kept : ℕ}
     → Tells states state sent gone kept [] → states ≡ None → (last : State) → state ≡ last
     → Tells (Some (record { opening = last; later = [] })) state sent gone (suc kept) (full_text state ∷ [])
-opens t none last is = grind (arith, t, none, is, Owed)
+opens (Whole c e) none last is = absurd (let some = c.1 in cc)
+opens {sent = sent} (Lost text e) none last is =
+    absurd (let f : [] ≡ text ∷ sent = sym (ap texts_told none) ∙ e in cc)
+opens {state = state} (Over e) none last is =
+    Owed (record { opening = last; later = [] }, refl, sym is) (full_text state)
+    (ap (λ (s : State). full_text s ∷ []) (sym is)
+    ∙ ap (λ xs. full_text state ∷ xs) (sym (ap texts_told none) ∙ e))
 
 -- ---- sending
 -- a text that is owed was sent
@@ -135,16 +141,6 @@ owed_by (Some text) n = texts n text
 owed_published : (peer : ℕ) (f : Facts) (text : Option (List ℕ))
     → owed peer (record { facts = f; place = telling_if text f }) ≡ owed_by text (count peer f.peers)
 owed_published peer f text = grind arith
-
-none_by : (text : Option (List ℕ)) → [] ≡ owed_by text 0
-none_by None = refl
-none_by (Some text) = refl
-
-owes : {states : Option SessionStates} {state : State} {sent : List (List ℕ)} → IsCurrent states state
-    → (text : Option (List ℕ)) → texts_told states ≡ with_text text sent
-    → Tells states state sent false (suc zero) (owed_by text (suc zero))
-owes c None e = Whole c e
-owes c (Some text) e = Owed c text e
 
 publishes : {states : Option SessionStates} {sent : List (List ℕ)} {gone : Bool} {kept : ℕ} {state : State}
     → Tells states state sent gone kept [] → (s : State)

@@ -21,6 +21,7 @@ use Rattle.css_drive.specs.CompanionTurns.{is_asking}
 use Rattle.css_drive.specs.Stages.{At, DialsOnce, DialsTold, AsksOnce}
 use Rattle.css_drive.specs.Ends.{CountsNetFault}
 use Rattle.css_drive.specs.Proper.{Due}
+use Rattle.css_drive.specs.TvRan.{AreNumbered}
 use Rattle.css_drive.specs.declared.driven.Driven.{Driven}
 use Rattle.css_drive.specs.declared.driven.Driven.TheVariants as driven
 use Rattle.css_drive.specs.declared.parting.Parting.{Parting}
@@ -72,6 +73,7 @@ pub record Runs (plan : Plan) (start now : Shown) (p : Progress) (history : Hist
   pub proper : IsProperRelay plan history
   pub progress : progress_of plan history ≡ p
   pub ordered : AreInOrder (now.counts.peers + 1) history
+  pub numbered : AreNumbered history
 
 -- and the relay knows of it
 pub record Stands (plan : Plan) (start now : Shown) (relay : Relay) (p : Progress) (history : History)
