@@ -127,17 +127,13 @@ module _ {config : DriveConfig} {before now : Shown} {saw : List Note → Type 0
   pub in_turn : due config history ≡ from_turn config history → (calls : Bool)
       → is_calling config live ≡ calls
       → due config history ≡ cond calls (from_cii config history) (from_end config history)
-  in_turn d calls e =
-      d ∙ ap {A = Live} (λ x. cond (is_calling config x) (from_cii config history) (from_end config history)) s.facts
-      ∙ rw e
+  in_turn d calls e = let f = s.facts in grind (arith, d, e, f)
 
   -- another turn, or the end
   pub at_end : due config history ≡ from_end config history → (again : Bool)
       → is_another config live ≡ again
       → due config history ≡ cond again (Now why.Turn) (from_hang_ups (final config history) history)
-  at_end d again e =
-      d ∙ ap {A = Live} (λ x. cond (is_another config x) (Now why.Turn) (from_hang_ups (final config history) history))
-      s.facts ∙ rw e
+  at_end d again e = let f = s.facts in grind (arith, d, e, f)
 
   pub is_over : due config history ≡ from_end config history → is_another config live ≡ false
       → IsLawful history → {end : Driven} → end ≡ ending_of config.reports live

@@ -1,7 +1,7 @@
 -- How a run's history goes on by a call.
 use Rattle.std.proofs.Common.{◌≡◌, ℕ, ◌≤◌, ◌<◌, arith, ap, sym, ◌∙◌, subst, refl, Bool, true, false, cond, List, []}
 use Rattle.std.proofs.Common.{◌∷◌, ◌++◌, append_assoc, Option, Some, None, eq-eqb, inl, inr, Result, Ok, Err}
-use Rattle.std.specs.Prelude.{is_some, IfSome, MatchResult, IsErrAnd, ◌&&◌, ◌||◌, IfOk, ◌<◌}
+use Rattle.std.specs.Prelude.{IfSome, MatchResult, IsErrAnd, ◌||◌, IfOk, ◌<◌}
 use Rattle.css_drive.specs.CompanionStanding.{Shown, facts_of, KnowsPeers, Stands, Knows, KnowsUnder, Comes, Stops}
 use Rattle.css_drive.specs.CompanionStanding.{IsEndBy, IsSo, Fails, Adds, HasDialled, dial_entries, GivesPlace}
 use Rattle.css_drive.specs.CompanionStanding.{asked_after, IsRefusal, HasRead, Goes, IsDue, TakesIn, from_text}
@@ -304,27 +304,17 @@ module _ {config : DriveConfig} {before now : Shown} {saw : List Note → Type 0
   pub wc_due : due config history ≡ from_wc config history → live.wc ≡ None → (state : State)
       → state ≡ state_of history → (p : Option (Result Address AddressFault)) → place kind.Wc state.wc_url ≡ p
       → due config history ≡ dial_to None kind.Wc WcUrl p (from_ts config history)
-  wc_due d none state told p at =
-      d ∙ ap (λ x. dial_to x kind.Wc WcUrl (place kind.Wc (state_of history).wc_url) (from_ts config history))
-      (ap {A = Live} (λ x. x.wc) s.facts ∙ none)
-      ∙ ap (λ x. dial_to None kind.Wc WcUrl x (from_ts config history))
-      (ap (λ (x : State). place kind.Wc x.wc_url) (sym told) ∙ at)
+  wc_due d none state told p at = let f = s.facts in grind (arith, d, none, told, at, f)
 
   pub ts_due : due config history ≡ from_ts config history → live.ts ≡ None → (state : State)
       → state ≡ state_of history → (p : Option (Result Address AddressFault)) → place kind.Ts state.ts_url ≡ p
       → due config history ≡ dial_to None kind.Ts TsUrl p (from_ask config history)
-  ts_due d none state told p at =
-      d ∙ ap (λ x. dial_to x kind.Ts TsUrl (place kind.Ts (state_of history).ts_url) (from_ask config history))
-      (ap {A = Live} (λ x. x.ts) s.facts ∙ none)
-      ∙ ap (λ x. dial_to None kind.Ts TsUrl x (from_ask config history))
-      (ap (λ (x : State). place kind.Ts x.ts_url) (sym told) ∙ at)
+  ts_due d none state told p at = let f = s.facts in grind (arith, d, none, told, at, f)
 
   -- ---- requests and datagrams
   pub ask_due : due config history ≡ from_ask config history → {p : ℕ} → live.wc ≡ Some p
       → is_asking config.ask_every live.turn live.asked ≡ true → due config history ≡ Now why.Ask
-  ask_due d e is =
-      d ∙ ap {A = Live} (λ x. cond (is_some x.wc && is_asking config.ask_every x.turn x.asked) (Now why.Ask)
-      (from_take config history)) s.facts ∙ rw (e, is)
+  ask_due d e is = let f = s.facts in grind (arith, d, e, is, f)
 
   pub take_due : due config history ≡ from_take config history → {p : ℕ} → live.wc ≡ Some p
       → due config history ≡ TakeDatagram

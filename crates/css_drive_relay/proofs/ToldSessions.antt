@@ -111,9 +111,7 @@ went (Owed c text e) = Lost text e
 -- a session is over that was owed nothing
 ends : {states : Option SessionStates} {state : State} {sent : List (List ℕ)} {gone : Bool} {kept : ℕ}
     → Tells states state sent gone kept [] → Tells states state sent gone 0 []
-ends (Whole c e) = Over e
-ends (Over e) = Over e
-ends (Lost text e) = Lost text e
+ends t = grind (arith, t, Over, Lost)
 
 module _ {states : Option SessionStates} {state : State} {sent : List (List ℕ)} {gone : Bool} {kept : ℕ} where
   wrote_one : (same : Bool) (n : ℕ) (text : List ℕ)
