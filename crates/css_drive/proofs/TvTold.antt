@@ -2,7 +2,7 @@
 -- the session was to be told.
 use Rattle.std.proofs.Common.{◌≡◌, ℕ, ◌≤◌, ◌<◌, Bool, true, false, cond, eqb, List, [], ◌∷◌, ◌++◌, length, Option, Some}
 use Rattle.std.proofs.Common.{None, refl, sym, ap, subst, ◌∙◌, arith, append-nil, Result, Ok, Err, suc, length-append}
-use Rattle.std.specs.Prelude.{⊤, ◌==◌, ◌||◌, map, reverse, option_map, option_and_then, IfSome, ◌&&◌}
+use Rattle.std.specs.Prelude.{⊤, ◌||◌, map, reverse, option_map, IfSome, ◌&&◌}
 use Rattle.std.specs.List.{filter_map}
 use Rattle.std.proofs.lemmas.List.{length-reverse}
 use Rattle.std.proofs.lemmas.Bool.{and_parts, cond_both}
@@ -13,11 +13,11 @@ use Rattle.css_tsmsg.specs.declared.bound.Presentation.{Presentation}
 use Rattle.css_tsmsg.specs.declared.setup.Setup.{Setup}
 use Rattle.css_num.specs.declared.protocol.Kind.{Kind}
 use Rattle.css_num.specs.declared.protocol.Kind.TheVariants as kind
-use Rattle.css_sessions.specs.Kept.{Event, Opened, SetUp, Published, Presented, Dropped, Closed, Kept, Rising, talk_of}
-use Rattle.css_sessions.specs.Kept.{news_of_talk, difference_text}
+use Rattle.css_sessions.specs.Kept.{Event, Opened, SetUp, Published, Presented, Dropped, Closed, Kept, Rising}
+use Rattle.css_sessions.specs.Kept.{difference_text}
 use Rattle.css_sessions.specs.declared.session.Said.{Said}
-use Rattle.css_sessions.specs.Told.{Life, Lived, IsLawful, IsAccepted, life_of, living, set_life, grown_life, ended}
-use Rattle.css_sessions.specs.Told.{when, sessions_of, said_to, texts_of, with_text, texts_of_lived}
+use Rattle.css_sessions.specs.Told.{Life, Lived, IsLawful, IsAccepted, life_of, ended, when, sessions_of, said_to}
+use Rattle.css_sessions.specs.Told.{texts_of, with_text, texts_of_lived}
 use Rattle.css_sessions.proofs.InForce.{peers}
 use Rattle.css_sessions.proofs.Talks.{said_to-news}
 use Rattle.css_sessions.proofs.Telling.{is_kept}
@@ -100,27 +100,17 @@ is_called h a p e fresh = grind (arith, fresh, Nothing, Opens, SetsUp, Shows, Cl
 
 -- ---- lives
 -- what no call changes but an opening: no session, or one that is over
-pub record IsOver (life : Option Lived) : Type 0 where
-  pub lives : (f : Life → Life) → option_map (living f) life ≡ life
-  pub ends : option_map ended life ≡ life
-
-pub none_over : IsOver None
-none_over = record { lives = λ f. refl; ends = refl }
-
-same_when : (b : Bool) (f : Option Lived → Option Lived) {o life : Option Lived} → o ≡ life → f life ≡ life
-    → when b f o ≡ life
-same_when true f e same = ap f e ∙ same
-same_when false f e same = e
+abbrev pub IsOver : Option Lived → Type 0
+IsOver None = ⊤
+IsOver (Some lived) = lived.over ≡ true
 
 module _ (peer : ℕ) (h : List Event) {life : Option Lived} (o : IsOver life) (is : life_of peer h ≡ life) where
   calls_keep : {e : TvEvent} {called : List Event} → (life ≡ None → IsOther peer e) → IsCalled h e called
       → life_of peer (called ++ h) ≡ life
   calls_keep other (Opens p k fresh) = grind (arith, nat_tests, is, fresh, other)
-  calls_keep other (SetsUp p u player waiting) =
-      same_when (p == peer) (option_map (living (set_life u player))) is (o.lives (set_life u player))
-  calls_keep other (Shows s player) =
-      ap (option_map (living (grown_life s player))) is ∙ o.lives (grown_life s player)
-  calls_keep other (Closes p) = same_when (p == peer) (option_map ended) is o.ends
+  calls_keep other (SetsUp p u player waiting) = grind (arith, o, is)
+  calls_keep other (Shows s player) = grind (arith, o, is)
+  calls_keep other (Closes p) = grind (arith, o, is)
   calls_keep other (Drops called) = calls_keep other called
   calls_keep other (Places p q before called) = calls_keep other called
   calls_keep other Nothing = is
@@ -145,17 +135,12 @@ news-of-outcome peer (Ok o) kept = ap (said_to peer) (said_in o kept [])
 abbrev Few : ℕ → List Said → Type 0
 Few peer said = length (said_to peer said) ≤ 1
 
-few-text : (o : Option (List ℕ)) → length (with_text o []) ≤ 1
-few-text o = grind arith
-
 few-called : (peer : ℕ) {h : List Event} {e : TvEvent} {called : List Event} (k : Kept) → IsCalled h e called
     → Rising 0 k.list → Few peer (said_after called k)
 few-called peer k (Opens p kind.Cii fresh) rising = grind arith
 few-called peer k (SetsUp p u player waiting) rising = grind arith
 few-called peer k (Shows state player) rising =
-    let change = difference_text k.state state in
-    subst (λ (texts : List (List ℕ)). length texts ≤ 1) (sym (said_to-news change player peer 0 k.list rising))
-    (few-text (option_and_then (news_of_talk change player) (talk_of peer k.list)))
+    let news = said_to-news (difference_text k.state state) player peer 0 k.list rising in grind (arith, news)
 few-called peer k (Drops is) rising = subst (Few peer) (sym (append-nil _)) (few-called peer k is rising)
 few-called peer k (Places p q before is) rising =
     subst (Few peer) (sym (append-nil _)) (few-called peer k is rising)
@@ -206,9 +191,6 @@ adds_nothing (x ∷ xs) ys e =
 -- ---- what a session was told
 abbrev gone_life : Life → Option Lived
 gone_life life = Some (record { life = life; over = true })
-
-gone_over : (life : Life) → IsOver (gone_life life)
-gone_over life = record { lives = λ f. refl; ends = refl }
 
 -- A session with this life was sent all that it was to be told; or all but a text that is owed to it; or all but one
 -- that was told as gone, and then it is over.
@@ -273,10 +255,10 @@ stands_event a peer sent gone old new e es owed s none fresh was =
       lawful = event-lawful a e es s.lawful fresh;
       telling = telling_on _ (news_of peer now) (event-texts a e es s.lawful fresh peer)
           (event-few a e es s.lawful fresh peer)
-          (λ l over. event_keeps a e es peer (gone_over l) fresh (λ none. absurd (cc)) over)
+          (λ l over. event_keeps a e es peer {life = gone_life l} refl fresh (λ none. absurd (cc)) over)
           (subst (λ (os : List TvOut). Telling (life_of peer (calls_of a es).sessions) sent gone (news_of peer os)) none
           s.telling);
-      unused = λ n. event_keeps a e es peer none_over fresh (λ none. (was n).1) (s.unused (was n).0);
+      unused = λ n. event_keeps a e es peer {life = None} tt fresh (λ none. (was n).1) (s.unused (was n).0);
     })
 
 -- ---- what holds at each place
@@ -441,7 +423,7 @@ module _ (run : TvRun) (older : History) (good : (other : ℕ) → Good run othe
       (sym (append-nil (without_first before.owed))) (record {
         lawful = ((good peer).lawful, tt);
         telling = text_gone _ _ (eqb p peer) (owing p owes.0 owes.1);
-        unused = λ below. event_keeps a (event.Closed p) before.events peer none_over tt (λ none. tt)
+        unused = λ below. event_keeps a (event.Closed p) before.events peer {life = None} tt tt (λ none. tt)
             ((good peer).unused below);
       }))
   entry_good (HungUp p) silent numbered =
