@@ -15,7 +15,7 @@ use Rattle.css_outside.specs.declared.limit.Limit.{Limit}
 use Rattle.css_outside.specs.declared.fault.OutFault.{OutFault}
 use Rattle.css_companion.specs.declared.report.Report.{Report}
 use Rattle.css_companion.proofs.Headline as headline
-use Rattle.css_drive.specs.CompanionDue.{due, hang_up, from_hang_ups, from_turn, from_cii, from_end, final, is_short}
+use Rattle.css_drive.specs.CompanionDue.{due, hang_up, from_hang_ups, from_turn, from_cii, from_end, final}
 use Rattle.css_drive.specs.CompanionReports.{due_reports, report_at, is_due, IsPromisedAt, KeepsPromises, written}
 use Rattle.css_drive.specs.CompanionStanding.{Shown, facts_of, Stands, Hangs, Stops, Adds, ending_of, is_another}
 use Rattle.css_drive.specs.CompanionStanding.{is_calling, open_of, without, Knows, Made, IsEarly, IsSo, IsEndOf}
@@ -139,9 +139,9 @@ module _ {config : DriveConfig} {before now : Shown} {saw : List Note → Type 0
       → IsLawful history → {end : Driven} → end ≡ ending_of config.reports live
       → Hangs config before now saw live end
   is_over d last lawful {end} so =
-      let f : final config history ≡ end =
-      ap (λ b. cond (is_short config history) (cond b (driven.Spent (turns history)) (driven.Unreachable (turns
-      history))) driven.Done) (any_is history) ∙ ap (ending_of config.reports) s.facts ∙ sym so in
+      let facts = s.facts in
+      let any = any_is history in
+      let f : final config history ≡ end = grind (arith, facts, any, so) in
       record {
         history = history;
         stands = s;

@@ -407,8 +407,7 @@ module _ {config : DriveConfig} {before now : Shown} {saw : List Note → Type 0
   -- ---- what it is to be asked
   text_due : (which : Session) → due config history ≡ from_text which config history → {p : ℕ}
       → open_of which live ≡ Some p → due config history ≡ TakeText p
-  text_due session.Cii d at = d ∙ rw (ap {A = Live} (λ x. x.cii_open) s.facts ∙ at)
-  text_due session.Ts d at = d ∙ rw (ap {A = Live} (λ x. x.ts_open) s.facts ∙ at)
+  text_due which d at = let f = s.facts in grind (arith, d, at, f)
 
 -- ---- notes
 pub heard_noted : (config : DriveConfig) (p : ℕ) (said : Answer) (which : Session) (history : History)

@@ -388,11 +388,7 @@ module _ (run : TvRun) (older : History) (good : (other : ℕ) → Good run othe
   hung : (p : ℕ) (owed : List TvOut) → before.owed ≡ owed → IsSilent owed → let q = hung_up p owed before in
       Stands (addresses_in run.config) peer (sent_to peer older) (is_gone peer older) (AreBelow peer older) q.events
       (news_of peer q.owed)
-  hung p [] is silent = good peer
-  hung p (out.HangUp q ∷ owed) is silent =
-      subst (λ (os : List TvOut). Stands (addresses_in run.config) peer (sent_to peer older) (is_gone peer older)
-      (AreBelow peer older) before.events (news_of peer os)) is (good peer)
-  hung p (out.Say q text ∷ owed) is silent = absurd silent
+  hung p owed is silent = let was = good peer in grind (arith, is, silent, was)
 
   entry_good : (entry : Entry) → Follows before.owed entry → AreNumbered (entry ∷ older)
       → Good run peer (entry ∷ older)

@@ -244,12 +244,6 @@ goes_calls live s new (Err ended) (inr (inr (a, b, cii, wc, asks))) =
     goes_ask (with_at live b) y.2 _ _ refl refl y.3 new (Err ended) asks
 
 -- ---- the television's session
-still_open : (was is : Option ℕ) → is ≡ was → true ≡ (is_some was && not (is_some is)) → ⊥
-still_open was is same e = grind (arith, same, e)
-
-is_shut : (was is : Option ℕ) → is_some was ≡ true → is ≡ None → false ≡ (is_some was && not (is_some is)) → ⊥
-is_shut was is some none e = grind (arith, some, none, e)
-
 module _ (live : Live) {plan : Plan} {start now : Shown} {history : History}
     (s : Stands plan start now live.relay (stood live (welcomed (facts_in live))) history) (new : At) where
   -- nothing came, and the session is as it was

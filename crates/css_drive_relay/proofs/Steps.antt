@@ -6,7 +6,7 @@ use Rattle.css_drive_relay.specs.Places.{at, Facts, Progress, next_asked, tellin
 use Rattle.css_drive_relay.specs.Places.{Called, after_dial, after_clock, Asked, beginning, with_turn, Taken, Received}
 use Rattle.css_drive_relay.specs.Places.{Served, received, answering, Welcomed, welcomed, published, television_told}
 use Rattle.css_drive_relay.specs.Places.{is_kept, opened_if, refusal_of}
-use Rattle.std.specs.Prelude.{not, is_some, ◌⊎◌, unwrap_or, MatchResult, ◌&&◌, IfSome, length}
+use Rattle.std.specs.Prelude.{is_some, ◌⊎◌, unwrap_or, MatchResult, IfSome, length}
 use Rattle.std.proofs.lemmas.Bool.Decides.{nat_tests}
 use Rattle.css_model.specs.declared.Kind.{Kind}
 use Rattle.css_model.specs.declared.Failure.{Failure}
@@ -30,7 +30,6 @@ use Rattle.css_drive.specs.CompanionStanding.{IsRefusal}
 use Rattle.css_drive.specs.Ends.{MayEnd, CountsNetFault}
 use Rattle.css_drive.specs.Proper.{Due, Now, MayAdd, More, Dial, Ends, Empty, TakeDatagram}
 use Rattle.css_drive.specs.declared.driven.Driven.{Driven}
-use Rattle.css_drive.specs.declared.parting.Parting.{Parting}
 use Rattle.css_drive.proofs.CompanionSteps.{told_more, counts_same, fault_ends, own_quiet, IsOwn, knows_plain}
 use Rattle.css_drive.proofs.CompanionSteps.{knows_tried, lawful_plain, refusal_own}
 use Rattle.css_drive_relay.specs.Due.{due_at, due_for, final, from_taken, is_left}
@@ -375,11 +374,9 @@ was_begun limit range None this made some over =
 -- a visit that was cut short began one
 pub some_made : (plan : Plan) (f : Facts) → IfSome f.first (λ x. 1 ≤ f.turns) → (f.parting ≡ None) ⊎ (1 ≤ f.turns)
     → is_left plan f ≡ false → 1 ≤ f.turns
-some_made plan f begun (inr some) none = some
-some_made plan f begun (inl whole) none =
-    was_begun plan.run.limit plan.run.limit_range f.first f.turn f.turns begun
-    (subst (λ (o : Option Parting). (not (is_some o) && goes_on plan.run.limit f.first f.turn f.turns) ≡ false) whole
-    none)
+some_made plan f begun made none =
+    let least = was_begun plan.run.limit plan.run.limit_range f.first f.turn f.turns begun in
+    grind (arith, made, none, least)
 
 -- no turn is left, so the run ends
 pub over : {plan : Plan} {start now : Shown} {live : Live} {history : History}
