@@ -11,7 +11,6 @@ use Rattle.css_model.specs.History.{Address, Closed, Dialled, Heard, History, Qu
 use Rattle.css_model.specs.Wire.{encoded, request_at}
 use Rattle.css_address.specs.declared.fault.AddressFault.{AddressFault}
 use Rattle.css_cii.specs.declared.name.CiiName.TheVariants.{WcUrl}
-use Rattle.css_cii.specs.declared.state.State.{State}
 use Rattle.css_companion.specs.Meanings.{kind_of, is_ts, opens_ts}
 use Rattle.css_companion.specs.Standing.{Companion}
 use Rattle.css_companion.specs.declared.binding.Binding.TheVariants.{WallClock}
@@ -20,7 +19,7 @@ use Rattle.css_outside.specs.declared.calls.Clocked.{Clocked}
 use Rattle.css_outside.specs.declared.calls.Heard.{Heard as Answer}
 use Rattle.css_outside.specs.declared.calls.Heard.TheVariants as answer
 use Rattle.css_relay.specs.Lending.{with_companion}
-use Rattle.css_relay.specs.Relays.{relayed_state, state_of}
+use Rattle.css_relay.specs.Relays.{relayed_state}
 use Rattle.css_drive.specs.CompanionDue.{dial_first, dial_to, place, send_to}
 use Rattle.css_drive.specs.CompanionStanding as companions
 use Rattle.css_drive.specs.CompanionStanding.{Shown, GivesPlace, IsRefusal, dial_entries, still}
@@ -137,11 +136,7 @@ module _ (live : Live) {plan : Plan} {start now : Shown} {history : History} {sp
       due : (known : Option ℕ) (told : Option (Result Address AddressFault)) → live.own.wc ≡ known
           → place kind.Wc live.relay.companion.state.wc_url ≡ told
           → due_at plan (facts_in live) history spot ≡ dial_to known kind.Wc WcUrl told rest
-      due known told e t =
-          is ∙ ap (λ o. dial_to o kind.Wc WcUrl (place kind.Wc (state_of history).wc_url) rest) e
-          ∙ ap (λ (x : State). dial_to known kind.Wc WcUrl (place kind.Wc x.wc_url) rest)
-          (sym s.knows.companion.stands.state)
-          ∙ ap (λ x. dial_to known kind.Wc WcUrl x rest) t
+      due known told e t = let state = s.knows.companion.stands.state in grind (arith, is, e, t, state)
 
       by : (known : Option ℕ) (told : Option (Result Address AddressFault))
           → due_at plan (facts_in live) history spot ≡ dial_to known kind.Wc WcUrl told rest

@@ -23,7 +23,7 @@ use Rattle.css_outside.specs.declared.calls.Clocked.{Clocked}
 use Rattle.css_agree.specs.Keeping.{Kept}
 use Rattle.css_relay.specs.Agreeing.{Agrees, IsAgreementOf}
 use Rattle.css_relay.specs.Lending.{with_companion}
-use Rattle.css_relay.specs.Relays.{Relay, StandsFor, relayed_state, state_of}
+use Rattle.css_relay.specs.Relays.{Relay, StandsFor, relayed_state}
 use Rattle.css_drive.specs.CompanionStanding as companions
 use Rattle.css_drive.specs.CompanionStanding.{Shown, Adds, Fails, asked_after, HasDialled, dial_entries, IsFault}
 use Rattle.css_drive.specs.CompanionStanding.{IsRefusal}
@@ -241,25 +241,12 @@ module _ {plan : Plan} {start now next : Shown} {live later : Live} {place : Pla
       → after_clock plan w clocked.reading (sleep_entries clocked.slept ++ history) (stood later place) ≡ q
       → Runs plan start next q (clock_entries w clocked ++ history)
   runs_read s is-due r q goes =
+      let was = s.progress in
+      let facts = read_facts r in
+      let ordered = s.ordered in
+      let peers = r.read.peers in
       runs_more s (clock_entries w clocked) (may_as is-due (clock_entries w clocked) (clocked, refl)) r.read.told
-      r.read.faults q
-      (by clocked.slept ∙ ap (λ (f : Facts). after_clock plan w clocked.reading (sleep_entries clocked.slept ++ history)
-      (record { facts = f; place = place })) (sym (read_facts r)) ∙ goes)
-      (elim clocked.slept as (λ slept. AreInOrder (next.counts.peers + 1) (entries slept))
-      [ true ↦ in_order | false ↦ in_order ])
-    where
-      entries : Bool → History
-      entries slept = clock_entries w (record { reading = clocked.reading; slept = slept }) ++ history
-
-      by : (slept : Bool) → progress_of plan (entries slept)
-          ≡ after_clock plan w clocked.reading (sleep_entries slept ++ history)
-          (record { facts = record (facts_in live) { asked = asked_after slept live.own.asked }; place = place })
-      by true = ap (λ (x : Progress). after_clock plan w clocked.reading (Slept ∷ history)
-          (record { facts = record x.facts { asked = None }; place = x.place })) s.progress
-      by false = ap (after_clock plan w clocked.reading history) s.progress
-
-      in_order : AreInOrder (next.counts.peers + 1) history
-      in_order = subst (λ (n : ℕ). AreInOrder (n + 1) history) (sym r.read.peers) s.ordered
+      r.read.faults q (grind (arith, was, facts, goes)) (grind (arith, ordered, peers))
 
   -- and neither for a request nor for a landing
   pub stands_read : Stands plan start now live.relay (stood live place) history
@@ -505,14 +492,7 @@ module _ (live : Live) {plan : Plan} {start now : Shown} {history : History} {re
         facts = record (facts_in live) { state = found };
         place = telling_if change (record (facts_in live) { state = found });
       }) history
-  publishes {state} {found} s e change is =
-      let at : Option (List ℕ) → State → Progress = λ o x. record {
-        facts = record (facts_in live) { state = x };
-        place = telling_if o (record (facts_in live) { state = x });
-      } in
-      stands_as s (at change found)
-      (ap (λ (x : State). at (difference_text live.state x) x) (sym e)
-      ∙ ap (λ (o : Option (List ℕ)). at o found) (sym is))
+  publishes s e change is = stands_as s _ (grind (arith, e, is))
 
   -- ---- the television's session, where it is open and where it isn't
   pub asked_next : Stands plan start now relay (stood live (welcomed (facts_in live))) history → (o : Option ℕ)
@@ -561,10 +541,6 @@ module _ (live : Live) {plan : Plan} {start now next : Shown} {history : History
       → Stands plan start next later (published (relayed_state later.wc_url later.companion.state) (facts_in live))
       (Heard peer bytes ∷ history)
   taken_in bytes a accepts later k =
-      stands_as (record { runs = heard bytes a; knows = k })
-      (published (relayed_state later.wc_url later.companion.state) (facts_in live))
-      (ap (λ (x : Option CompanionFault). television_told x (relayed plan (Heard peer bytes ∷ history))
-      (facts_in live)) accepts
-      ∙ ap (λ (x : List ℕ). published (relayed_state x (state_of (Heard peer bytes ∷ history))) (facts_in live))
-      (sym k.wc_url)
-      ∙ ap (λ (x : State). published (relayed_state later.wc_url x) (facts_in live)) (sym k.companion.stands.state))
+      let url = k.wc_url in
+      let state = k.companion.stands.state in
+      stands_as (record { runs = heard bytes a; knows = k }) _ (grind (arith, accepts, url, state))
