@@ -1,21 +1,21 @@
 -- How a turn begins, how a run ends, and what it has written then.
 use Rattle.std.proofs.Common.{◌≡◌, ℕ, ◌+◌, ◌<◌, ◌≤◌, arith, ap, sym, ◌∙◌, subst, refl, Bool, true, false, cond, List}
-use Rattle.std.proofs.Common.{[], ◌∷◌, length, Option, Some, None, add-one, eq-eqb, inl, inr, Result, Ok, Err, ◌++◌}
+use Rattle.std.proofs.Common.{[], ◌∷◌, length, Option, Some, None, eq-eqb, inl, inr, Result, Ok, Err, ◌++◌}
 use Rattle.std.proofs.Common.{append_assoc, append-nil, map, flat_map}
-use Rattle.std.proofs.lemmas.Bool.{ltb-true, lt-ltb, and_parts, or_right, not-false}
+use Rattle.std.proofs.lemmas.Bool.{lt-ltb, or_right, not-false}
+use Rattle.std.proofs.lemmas.Bool.Decides.{nat_tests}
 use Rattle.std.proofs.lemmas.Grind.{common_steps}
-use Rattle.std.specs.Prelude.{is_some, nat_lt, not, ◌||◌, ◌⊎◌, OnOk, ◌<◌}
+use Rattle.std.specs.Prelude.{is_some, ◌||◌, ◌⊎◌, OnOk, ◌<◌}
 use Rattle.css_model.specs.declared.Kind.TheVariants as kind
 use Rattle.css_model.specs.declared.Why.TheVariants as why
 use Rattle.css_model.specs.Explains.{IsLawful}
 use Rattle.css_model.specs.History.{Clock, Dialled, HungUp, History}
-use Rattle.css_outside.specs.Limits.{most_turns, IsLimit}
+use Rattle.css_outside.specs.Limits.{IsLimit}
 use Rattle.css_outside.specs.declared.limit.Limit.{Limit}
-use Rattle.css_outside.specs.declared.limit.Limit.TheVariants as limit
 use Rattle.css_outside.specs.declared.fault.OutFault.{OutFault}
 use Rattle.css_companion.specs.declared.report.Report.{Report}
 use Rattle.css_companion.proofs.Headline as headline
-use Rattle.css_drive.specs.CompanionDue.{due, hang_up, from_hang_ups, from_turn, from_cii, from_end, final, is_short}
+use Rattle.css_drive.specs.CompanionDue.{due, hang_up, from_hang_ups, from_turn, from_cii, from_end, final}
 use Rattle.css_drive.specs.CompanionReports.{due_reports, report_at, is_due, IsPromisedAt, KeepsPromises, written}
 use Rattle.css_drive.specs.CompanionStanding.{Shown, facts_of, Stands, Hangs, Stops, Adds, ending_of, is_another}
 use Rattle.css_drive.specs.CompanionStanding.{is_calling, open_of, without, Knows, Made, IsEarly, IsSo, IsEndOf}
@@ -59,33 +59,15 @@ module _ (config : DriveConfig) (history : History) (live : Live) (reading : ℕ
       let turn = Happened (standpoint config history) (Turn reading) ∷ notes in
       cond now (Reported (standpoint config history) number report ∷ turn) turn
 
-  now_due : is_due config.report_every reading (first_turn history) (length (due_reports config history)) ≡ due
-  now_due = ap {A = Live} (λ x. is_due config.report_every reading x.first x.reported) f ∙ e
-
   pub begun_facts : {begun : Live} → begun ≡ begun_at reading live
       → facts_of config (Clock why.Turn reading ∷ history)
       ≡ cond due (record begun { reported = begun.reported + 1 }) begun
-  begun_facts {begun} same =
-      let counted : Live → Live = λ x. cond due (record x { reported = x.reported + 1 }) x in
-      rw now_due (by due ∙ ap (λ x. counted (begun_at reading x)) f ∙ ap counted (sym same))
-    where
-      with : ℕ → Live
-      with n = record (begun_at reading (facts_of config history)) { reported = n }
-
-      by : (b : Bool) → with (length (cond b (report_at config history reading ∷ due_reports config history)
-          (due_reports config history)))
-          ≡ cond b (with (length (due_reports config history) + 1)) (with (length (due_reports config history)))
-      by true = ap with (sym (add-one (length (due_reports config history))))
-      by false = refl
+  begun_facts same = grind (arith, f, e, same)
 
   pub begun_notes : (notes : List Note) → noted config history ≡ notes → (report : Report)
       → report ≡ report_at config history reading
       → noted config (Clock why.Turn reading ∷ history) ≡ told due (live.reported + 1) report notes
-  begun_notes notes m report so =
-      rw now_due (ap (λ n. told due (n + 1) (report_at config history reading) (noted config history))
-      (ap {A = Live} (λ x. x.reported) f)
-      ∙ ap (λ x. told due (live.reported + 1) x (noted config history)) (sym so)
-      ∙ ap (told due (live.reported + 1) report) m)
+  begun_notes notes m report so = grind (arith, f, e, m, so)
 
 -- ---- the headline
 pub keeps_promises : (config : DriveConfig) (history : History) → IsLawful history → KeepsPromises config history
@@ -107,38 +89,29 @@ any_is (Dialled kind.Wc p ∷ h) = sym (or_right _ true refl)
 any_is (Dialled kind.Ts p ∷ h) = sym (or_right _ _ (or_right _ true refl))
 any_is (_ ∷ h) = any_is h
 
+-- one entry more
+none_counted : (reading first : Option ℕ) (made : ℕ) → (first ≡ None → made ≡ 0) → first_of reading first ≡ None
+    → counted reading made ≡ 0
+none_counted reading first made none e = grind (arith, none, e)
+
 -- before the first turn none was made
 none_made : (h : History) → first_turn h ≡ None → turns h ≡ 0
 none_made [] e = refl
-none_made (entry ∷ older) e = by (turn_at entry) (none_made older) e
-  where
-    by : (o : Option ℕ) → (first_turn older ≡ None → turns older ≡ 0) → first_of o (first_turn older) ≡ None
-        → counted o (turns older) ≡ 0
-    by None below e = below e
-    by (Some r) below e = absurd (cc)
+none_made (entry ∷ older) e = none_counted (turn_at entry) (first_turn older) (turns older) (none_made older) e
 
 -- ---- limits
 -- where another turn follows, fewer were made than 2^40
 pub below_most : (l : Limit) (first turn : Option ℕ) (made : ℕ) → IsLimit l → goes_on l first turn made ≡ true
     → made < 1099511627776
-below_most l first turn made r e =
-    by l r (ltb-true made (most_turns l) (and_parts (nat_lt made (most_turns l)) (not (is_late l first turn)) e).0)
-  where
-    by : (l : Limit) → IsLimit l → made < most_turns l → made < 1099511627776
-    by (limit.Turns n) r lt = omega (arith, r.1, lt)
-    by (limit.Seconds n) r lt = lt
+below_most l first turn made r e = grind (arith, nat_tests, r, e)
 
 -- a run has at least one turn
 first_goes_on : (l : Limit) (turn : Option ℕ) → IsLimit l → goes_on l None turn 0 ≡ false → ⊥
-first_goes_on (limit.Turns n) turn r e = grind (arith, common_steps, r.0, e)
-first_goes_on (limit.Seconds n) turn r e = absurd (cc)
+first_goes_on l turn r e = grind (arith, nat_tests, r, e)
 
 -- the first turn is never the last by its time
 pub never_late : (l : Limit) (first turn : Option ℕ) → IsLimit l → first ≡ turn → is_late l first turn ≡ true → ⊥
-never_late l None turn r e late = absurd (cc)
-never_late (limit.Turns n) (Some reading) turn r e late = absurd (cc)
-never_late (limit.Seconds n) (Some reading) turn r e late =
-    grind (arith, common_steps, r.0, ap (λ o. is_late (limit.Seconds n) (Some reading) o) e ∙ late)
+never_late l first turn r e late = grind (arith, nat_tests, r, e, late)
 
 -- ---- whether the run goes on
 -- calls follow the report of the first turn, if it isn't the last
@@ -154,25 +127,21 @@ module _ {config : DriveConfig} {before now : Shown} {saw : List Note → Type 0
   pub in_turn : due config history ≡ from_turn config history → (calls : Bool)
       → is_calling config live ≡ calls
       → due config history ≡ cond calls (from_cii config history) (from_end config history)
-  in_turn d calls e =
-      d ∙ ap {A = Live} (λ x. cond (is_calling config x) (from_cii config history) (from_end config history)) s.facts
-      ∙ rw e
+  in_turn d calls e = let f = s.facts in grind (arith, d, e, f)
 
   -- another turn, or the end
   pub at_end : due config history ≡ from_end config history → (again : Bool)
       → is_another config live ≡ again
       → due config history ≡ cond again (Now why.Turn) (from_hang_ups (final config history) history)
-  at_end d again e =
-      d ∙ ap {A = Live} (λ x. cond (is_another config x) (Now why.Turn) (from_hang_ups (final config history) history))
-      s.facts ∙ rw e
+  at_end d again e = let f = s.facts in grind (arith, d, e, f)
 
   pub is_over : due config history ≡ from_end config history → is_another config live ≡ false
       → IsLawful history → {end : Driven} → end ≡ ending_of config.reports live
       → Hangs config before now saw live end
   is_over d last lawful {end} so =
-      let f : final config history ≡ end =
-      ap (λ b. cond (is_short config history) (cond b (driven.Spent (turns history)) (driven.Unreachable (turns
-      history))) driven.Done) (any_is history) ∙ ap (ending_of config.reports) s.facts ∙ sym so in
+      let facts = s.facts in
+      let any = any_is history in
+      let f : final config history ≡ end = grind (arith, facts, any, so) in
       record {
         history = history;
         stands = s;
@@ -199,13 +168,7 @@ shut session.Ts was is {p} over e = ap {A = Live} (λ x. x.ts_open) over ∙ rw 
 -- where the sessions are hung up the run may end so
 pub final_ends : (config : DriveConfig) (history : History)
     → MayEnd (Ends (final config history)) (final config history) × IsOwn (final config history)
-final_ends config history = by (is_short config history) (any_dialled history)
-  where
-    by : (short any : Bool) → let end = cond short (cond any (driven.Spent (turns history)) (driven.Unreachable (turns
-        history))) driven.Done in MayEnd (Ends end) end × IsOwn end
-    by true true = (refl, tt)
-    by true false = (refl, tt)
-    by false any = (refl, tt)
+final_ends config history = grind arith
 
 module _ {config : DriveConfig} {before now : Shown} {saw : List Note → Type 0} {live : Live} {end : Driven}
     (x : Hangs config before now saw live end) where
@@ -256,19 +219,18 @@ pub final_dials : (over : Option OutFault) (before now : ℕ) (ended : Driven) �
     → before ≤ now → CountsDialFaults before now (final_end over ended)
 final_dials over before now ended c le = grind (arith, c, le)
 
+-- a run whose reports or turns are made
+ending_dials : (before now reports : ℕ) (live : Live) → before ≤ now
+    → (live.reported < reports → live.cii ≡ None → HasRisen before now)
+    → CountsDialFaults before now (ending_of reports live)
+ending_dials before now reports live le tried = grind (arith, nat_tests, le, tried)
+
 -- a run that ended where no dial of CSS-CII succeeded
 pub hung_dials : (before now reports : ℕ) (live : Live) (end ended : Driven) → before ≤ now
     → (live.reported < reports → live.cii ≡ None → HasRisen before now) → end ≡ ending_of reports live
     → (ended ≡ end) ⊎ IsEarly ended → CountsDialFaults before now ended
 hung_dials before now reports live end ended le tried so (inl e) =
-    subst (CountsDialFaults before now) (sym (e ∙ so))
-    (by (nat_lt live.reported reports) refl live.cii refl live.wc live.ts)
-  where
-    by : (short : Bool) → nat_lt live.reported reports ≡ short → (cii : Option ℕ) → live.cii ≡ cii
-        → (wc ts : Option ℕ) → CountsDialFaults before now (cond short (cond (is_some cii || (is_some wc || is_some ts))
-        (driven.Spent live.made) (driven.Unreachable live.made)) driven.Done)
-    by true s None c None None = tried (ltb-true _ _ s) c
-    by _ s _ c _ _ = le
+    subst (CountsDialFaults before now) (sym (e ∙ so)) (ending_dials before now reports live le tried)
 hung_dials before now reports live end ended le tried so (inr f) = early_dials before now ended f le
 
 -- a count that rose in a time rose in a longer one
@@ -305,24 +267,17 @@ names_on n m = record {
 abbrev EndsSo : Due → ℕ → ℕ → Option OutFault → Driven → Type 0
 EndsSo due before now over ended = MayEnd due ended × IsEndOf over ended × CountsNetFault before now ended
 
--- the run stopped, and its observer has the last word
+-- the observer has the last word
+ends_so : (due : Due) (before now : ℕ) (over : Option OutFault) (ended : Driven) → MayEnd due ended → IsSo over ended
+    → CountsNetFault before now ended → EndsSo due before now over (final_end over ended)
+ends_so due before now over ended ends so counted = grind (arith, ends, so, counted)
+
+-- the run stopped
 module _ (config : DriveConfig) (before now : Shown) (saw : List Note → Type 0) (over : Option OutFault)
     (ended result : Driven) (e : result ≡ final_end over ended) (s : Stops config before now saw over ended) where
   final_so : EndsSo (due config s.history) before.counts.faults now.counts.faults over result
   final_so = subst (EndsSo (due config s.history) before.counts.faults now.counts.faults over) (sym e)
-      (by over ended s.ends s.so s.counted)
-    where
-      same : (o : OutFault) (d : Driven) → IsSo (Some o) d
-          → CountsNetFault before.counts.faults now.counts.faults d → now.counts.faults ≡ before.counts.faults
-      same o (driven.NetFault failure) i c = let none : Some o ≡ None = i in cc
-      same o _ i c = c
-
-      by : (o : Option OutFault) (d : Driven) → MayEnd (due config s.history) d → IsSo o d
-          → CountsNetFault before.counts.faults now.counts.faults d
-          → EndsSo (due config s.history) before.counts.faults now.counts.faults o (final_end o d)
-      by None d m i c = (m, λ is. let Q : Driven → Type 0 = λ x. IsSo None x in (subst Q is i) refl, c)
-      by (Some (fault.Failed failure)) d m i c = (tt, refl, same (fault.Failed failure) d i c)
-      by (Some fault.Memory) d m i c = (tt, refl, same fault.Memory d i c)
+      (ends_so (due config s.history) before.counts.faults now.counts.faults over ended s.ends s.so s.counted)
 
   pub made_of : Made config before.told now.told saw over result
   made_of = record {
@@ -418,27 +373,18 @@ tells_nothing over now is on =
 abbrev Are : List Report → List Note → Type 0
 Are reports notes = (reports_in notes ≡ reports) × AreNumbered notes
 
-event_so : (reports : List Report) (from : Standpoint) (o : Option Event) (notes : List Note) → Are reports notes
-    → Are reports (with_event from o notes)
-event_so reports from None notes a = a
-event_so reports from (Some event) notes a = a
+-- one entry more
+note_so : (config : DriveConfig) (older : History) (from : Standpoint) (o : Option Event) (reading : Option ℕ)
+    (notes : List Note) → Are (due_reports config older) notes
+    → Are (reports.with_report config reading older (first_turn older) (due_reports config older))
+    (with_report config reading older (with_event from o notes))
+note_so config older from o reading notes are = grind (arith, are)
 
 noted_so : (config : DriveConfig) (history : History) → Are (due_reports config history) (noted config history)
 noted_so config [] = (refl, tt)
 noted_so config (entry ∷ older) =
-    by (turn_at entry) _ (event_so _ (standpoint config older) (event_of entry older) _ (noted_so config older))
-  where
-    by : (o : Option ℕ) (notes : List Note) → Are (due_reports config older) notes
-        → Are (reports.with_report config o older (first_turn older) (due_reports config older))
-        (with_report config o older notes)
-    by None notes a = a
-    by (Some r) notes a = at (is_due config.report_every r (first_turn older) (length (due_reports config older)))
-      where
-        at : (b : Bool) → Are (cond b (report_at config older r ∷ due_reports config older) (due_reports config older))
-            (cond b (Reported (standpoint config older) (length (due_reports config older) + 1)
-            (report_at config older r) ∷ notes) notes)
-        at true = (ap (λ x. report_at config older r ∷ x) a.0, (ap (λ x. length x + 1) (sym a.0), a.1))
-        at false = a
+    note_so config older (standpoint config older) (event_of entry older) (turn_at entry) (noted config older)
+    (noted_so config older)
 
 -- ---- what the run comes to
 -- what is whole is a part too

@@ -1,37 +1,38 @@
 -- The laws of companions' runs.
-use Rattle.std.proofs.Common.{◌≡◌, ℕ, ◌≤◌, ◌<◌, arith, suc, ap, sym, ◌∙◌, subst, refl, Bool, true, false, cond, inl}
-use Rattle.std.proofs.Common.{inr, map, List, [], ◌∷◌, ◌++◌, length, drop, Option, Some, None, Result, Ok, Err, take}
-use Rattle.std.proofs.lemmas.Bool.{ltb-true, ltb-false}
-use Rattle.std.specs.Prelude.{◌&&◌, if◌then◌else◌, ◌||◌}
+use Rattle.std.proofs.Common.{◌≡◌, ℕ, ◌≤◌, arith, suc, ap, sym, ◌∙◌, subst, refl, Bool, true, false, map, List, [], ◌∷◌}
+use Rattle.std.proofs.Common.{◌++◌, length, drop, Option, Some, None, Result, take, cond}
+use Rattle.std.proofs.lemmas.Bool.{cond_both, ltb-false}
+use Rattle.std.proofs.lemmas.Bool.Decides.{nat_tests}
+use Rattle.std.specs.Prelude.{if◌then◌else◌, ◌&&◌, not}
 use Rattle.css_model.specs.declared.Kind.{Kind}
 use Rattle.css_model.specs.declared.Kind.TheVariants as kind
-use Rattle.css_model.specs.declared.Why.{Why}
 use Rattle.css_model.specs.declared.Why.TheVariants as why
-use Rattle.css_model.specs.History.{Address, History, Clock, Slept, Sent, Dialled, Heard, Closed, Gone, LandedAnswer}
-use Rattle.css_model.specs.History.{just_taken, request_in, answer_in, requests, landed_answers, possible_answers}
-use Rattle.css_address.specs.declared.fault.AddressFault.{AddressFault}
-use Rattle.css_cii.specs.declared.name.CiiName.{CiiName}
-use Rattle.css_outside.specs.Outsides.{sleep_entries}
-use Rattle.css_outside.specs.declared.calls.Heard.TheVariants as heard
-use Rattle.css_outside.specs.declared.calls.Wrote.TheVariants as outcome
+use Rattle.css_model.specs.History.{Entry, History, LandedAnswer, request_in, answer_in, requests, landed_answers}
+use Rattle.css_model.specs.History.{possible_answers, Address}
 use Rattle.css_companion.specs.declared.fault.CompanionFault.{CompanionFault}
-use Rattle.css_companion.specs.declared.fault.CompanionFault.TheVariants as fault
 use Rattle.css_companion.specs.declared.report.Report.{Report}
 use Rattle.css_follow.specs.Following.{Seen, told, told_unless, ends_by}
 use Rattle.css_drive.specs.CompanionDue as dues
-use Rattle.css_drive.specs.CompanionDue.{Point, due, due_at, dial_to, dial_first, take_text, hang_up, sending, send_to}
-use Rattle.css_drive.specs.CompanionDue.{is_short, refusal, unless_refused, point_of, end_by, IsProperRun}
+use Rattle.css_drive.specs.CompanionDue.{dial_to, sending, take_text, from_ts, from_ask, dial_first, from_wc, from_end}
+use Rattle.css_drive.specs.CompanionDue.{Point, due, due_at, is_short, refusal, unless_refused, point_of, IsProperRun}
+use Rattle.css_drive.specs.CompanionDue.{from_cii, from_ts_text}
+use Rattle.css_address.specs.declared.fault.AddressFault.{AddressFault}
+use Rattle.css_cii.specs.declared.name.CiiName.{CiiName}
+use Rattle.css_cii.specs.declared.name.CiiName.TheVariants.{WcUrl, TsUrl}
+use Rattle.css_drive.specs.CompanionTurns.{is_late, first_turn, this_turn, dialled, opened}
+use Rattle.css_companion.specs.Meanings.{kind_of, is_ts, counted, merged_with, texts_of, state_of, control_by}
+use Rattle.css_companion.specs.Meanings.{is_closed}
 use Rattle.css_drive.specs.CompanionLaws.{ReportsAreAsAsked, FollowersHear, HasHeard, EachHasHeard, Happening, Sleep}
-use Rattle.css_drive.specs.CompanionLaws.{Asks, Lands, TellsCii, TellsTs, BeginsTs, EndsTs, landing, text_of, end_of}
-use Rattle.css_drive.specs.CompanionLaws.{with_happening, happenings, SameEventsAreReportedAlike}
+use Rattle.css_drive.specs.CompanionLaws.{Asks, Lands, TellsCii, TellsTs, BeginsTs, EndsTs, happenings}
+use Rattle.css_drive.specs.CompanionLaws.{SameEventsAreReportedAlike}
 use Rattle.css_drive.specs.CompanionReports.{due_reports}
 use Rattle.css_drive.specs.CompanionRun.{after_all}
 use Rattle.css_follow.specs.Listening.{Listener, hearing, words_of}
-use Rattle.css_drive.specs.Proper.{Due, Now, Dial, Accept, TakeDatagram, TakeText, SendText, Ends, MayAdd, Empty, More}
+use Rattle.css_drive.specs.Proper.{Due, Now, TakeDatagram, Ends, MayAdd, Empty, More}
 use Rattle.css_drive.specs.declared.config.DriveConfig.{DriveConfig}
 use Rattle.css_drive.specs.declared.driven.Driven.TheVariants as driven
 use Rattle.std.specs.List.{list_any}
-use Rattle.std.specs.Option.{option_and_then, option_map, option_or, option_to_list}
+use Rattle.std.specs.Option.{option_and_then, option_map, option_to_list}
 use Rattle.css_num.specs.declared.control.Control.{Control}
 use Rattle.css_model.specs.declared.Stamp.{Stamp}
 use Rattle.css_model.specs.declared.Message.{Message}
@@ -41,8 +42,6 @@ use Rattle.css_cii.specs.States.{empty}
 use Rattle.css_cii.specs.declared.state.State.{State}
 use Rattle.css_tsmsg.specs.Controls.{control_of}
 use Rattle.css_tsmsg.specs.declared.fault.TsFault.{TsFault}
-use Rattle.css_companion.specs.Meanings.{kind_of, is_cii, is_ts, counted, merged_with, texts_of, state_of, control_by}
-use Rattle.css_companion.specs.Meanings.{is_closed}
 use Rattle.css_companion.specs.Printed.{line_of}
 use Rattle.css_companion.specs.Reports.{timing_of, report_by, assigned_by}
 use Rattle.css_companion.specs.TimelineRates.{rate_of}
@@ -109,123 +108,73 @@ Verdict short (Now why.Turn) = short ≡ true
 Verdict short (Ends driven.Done) = short ≡ false
 Verdict short _ = Unit {0}
 
-record Fair (short : Bool) (due : Due) : Type 0 where
-  so : Verdict short due
+-- what comes before something for which that holds
+module _ (short : Bool) (rest : Due) (fair : Verdict short rest) where
+  first_fair : (known : Option ℕ) (to : Address) → Verdict short (dial_first known to rest)
+  first_fair known to = grind (arith, fair)
 
-module _ (short : Bool) where
-  either : (b : Bool) (x y : Due) → Fair short x → Fair short y → Fair short (cond b x y)
-  either true x y v w = v
-  either false x y v w = w
+  dial_fair : (known : Option ℕ) (k : Kind) (property : CiiName) (told : Option (Result Address AddressFault))
+      → Verdict short (dial_to known k property told rest)
+  dial_fair known k property told = grind (arith, fair)
 
-  after_text : (o : Option ℕ) (rest : Due) → Fair short rest → Fair short (take_text o rest)
-  after_text None rest v = v
-  after_text (Some p) rest v = record { so = tt }
+  setup_fair : (peer : ℕ) (text : Option (List ℕ)) → Verdict short (sending peer text rest)
+  setup_fair peer text = grind (arith, fair)
 
-  after_dial : (o : Option ℕ) (k : Kind) (property : CiiName) (told : Option (Result Address AddressFault))
-      (rest : Due) → Fair short rest → Fair short (dial_to o k property told rest)
-  after_dial (Some p) k property told rest v = v
-  after_dial None k property None rest v = v
-  after_dial None k property (Some (Err bad)) rest v = record { so = tt }
-  after_dial None k property (Some (Ok to)) rest v = record { so = tt }
+  -- what follows the dials
+  take_fair : (asks takes : Bool) (cii ts : Option ℕ)
+      → Verdict short (cond asks (Now why.Ask) (cond takes TakeDatagram (take_text cii (take_text ts rest))))
+  take_fair asks takes cii ts = grind (arith, fair)
 
-  after_first : (o : Option ℕ) (to : Address) (rest : Due) → Fair short rest → Fair short (dial_first o to rest)
-  after_first (Some p) to rest v = v
-  after_first None to rest v = record { so = tt }
+module _ (config : DriveConfig) (h : History) where
+  end_fair : Verdict (is_short config h) (from_end config h)
+  end_fair = grind arith
 
-  after_sending : (peer : ℕ) (o : Option (List ℕ)) (rest : Due) → Fair short rest
-      → Fair short (sending peer o rest)
-  after_sending peer None rest v = v
-  after_sending peer (Some text) rest v = record { so = tt }
+  ask_fair : Verdict (is_short config h) (from_ask config h)
+  ask_fair = take_fair _ (from_end config h) end_fair _ _ _ _
 
-  sends : (o : Option ℕ) (bytes : List ℕ) → Fair short (send_to o bytes)
-  sends None bytes = record { so = tt }
-  sends (Some p) bytes = record { so = tt }
+  ts_fair : Verdict (is_short config h) (from_ts config h)
+  ts_fair = dial_fair _ (from_ask config h) ask_fair _ kind.Ts TsUrl _
 
-  takes : Fair short TakeDatagram
-  takes = record { so = tt }
+  wc_fair : Verdict (is_short config h) (from_wc config h)
+  wc_fair = dial_fair _ (from_ts config h) ts_fair _ kind.Wc WcUrl _
 
-  reads : Fair short (Now why.Ask)
-  reads = record { so = tt }
-
-  refused : (f : CompanionFault) → Fair short (Ends (end_by f))
-  refused (fault.BadCii number reason) = record { so = tt }
-  refused _ = record { so = tt }
-
--- the end of a run is `Done` only where no reports are to be made
-hangs : (short any : Bool) (n : ℕ) (a b : Option ℕ)
-    → Fair short (hang_up a (hang_up b (Ends (cond short (cond any (driven.Spent n) (driven.Unreachable n))
-    driven.Done))))
-hangs short any n (Some p) b = record { so = tt }
-hangs short any n None (Some q) = record { so = tt }
-hangs true true n None None = record { so = tt }
-hangs true false n None None = record { so = tt }
-hangs false any n None None = record { so = refl }
-
--- after the end of a turn
-again : (short left : Bool) (rest : Due) → Fair short rest → Fair short (cond (short && left) (Now why.Turn) rest)
-again true true rest v = record { so = refl }
-again true false rest v = v
-again false left rest v = v
-
-ruleset fair = (either, after_text, after_dial, after_first, after_sending, sends, takes, reads, hangs, again)
-
-point_fair : (config : DriveConfig) (h : History) (p : Point) → Fair (is_short config h) (due_at config p h)
-point_fair config h (dues.Connected peer) = record { so = tt }
-point_fair config h dues.Arrived = record { so = tt }
-point_fair config h (dues.Called kind.Cii) = search fair depth 20
-point_fair config h (dues.Called _) = search fair depth 20
-point_fair config h _ = search fair depth 20
+  point_fair : (p : Point) → Verdict (is_short config h) (due_at config p h)
+  point_fair dues.Start = end_fair
+  point_fair dues.Begun =
+      cond_both (is_short config h && not (is_late config.limit (first_turn h) (this_turn h))) (from_cii config h)
+      (from_end config h) (Verdict (is_short config h))
+      (λ _. first_fair _ (from_wc config h) wc_fair (dialled kind.Cii h) config.cii) (λ _. end_fair)
+  point_fair (dues.Called kind.Cii) = wc_fair
+  point_fair (dues.Called kind.Wc) = ts_fair
+  point_fair (dues.Called kind.Ts) = ask_fair
+  point_fair (dues.SetUp peer) = setup_fair _ (from_ask config h) ask_fair peer _
+  point_fair dues.Requested = take_fair _ (from_end config h) end_fair false _ _ _
+  point_fair dues.Received = take_fair _ (from_end config h) end_fair false false _ _
+  point_fair (dues.HeardFrom peer) =
+      cond_both (is_ts (kind_of peer h)) (from_end config h) (from_ts_text config h) (Verdict (is_short config h))
+      (λ _. end_fair) (λ _. take_fair _ (from_end config h) end_fair false false None (opened kind.Ts h))
+  point_fair _ = grind arith
 
 settled : (config : DriveConfig) (h : History) → Verdict (is_short config h) (due config h)
-settled config h = (by (refusal h)).so
+settled config h = by (refusal h)
   where
-    by : (r : Option CompanionFault) → Fair (is_short config h) (unless_refused r (due_at config (point_of h) h))
+    by : (r : Option CompanionFault) → Verdict (is_short config h) (unless_refused r (due_at config (point_of h) h))
     by None = point_fair config h (point_of h)
-    by (Some f) = refused (is_short config h) f
-
--- one report more at most, and that in a turn
-with_one : (b : Bool) (report : Report) (reports : List Report) (n : ℕ) → length reports < n
-    → length (cond b (report ∷ reports) reports) ≤ n
-with_one true report reports n lt = omega (arith, lt)
-with_one false report reports n lt = omega (arith, lt)
+    by (Some f) = grind arith
 
 abbrev Within : DriveConfig → History → Type 0
 Within config h = length (due_reports config h) ≤ config.reports
 
-module _ (config : DriveConfig) (older : History) (w : Within config older) where
-  put : (call entries : History) → call ≡ entries → Within config (entries ++ older) → Within config (call ++ older)
-  put call entries is v = subst (λ (c : History). Within config (c ++ older)) (sym is) v
-
-  some_left : due config older ≡ Now why.Turn → length (due_reports config older) < config.reports
-  some_left e = ltb-true _ _ (subst (Verdict (is_short config older)) e (settled config older))
-
-  read : (y : Why) (reading : ℕ) (slept : Bool) → due config older ≡ Now y
-      → Within config (Clock y reading ∷ (sleep_entries slept ++ older))
-  read why.Turn reading true e = with_one _ _ _ _ (some_left e)
-  read why.Turn reading false e = with_one _ _ _ _ (some_left e)
-  read _ reading true e = w
-  read _ reading false e = w
-
-  call_within : (d : Due) → due config older ≡ d → (call : History) → MayAdd d call → Within config (call ++ older)
-  call_within (Now y) e call m = put call _ m.1 (read y m.0.reading m.0.slept e)
-  call_within (Dial k to) e call (inl m) = put call _ m.1 w
-  call_within (Dial k to) e call (inr m) = put call _ m.1 w
-  call_within Accept e call (None, is) = put call _ is w
-  call_within Accept e call (Some (peer, k), is) = put call _ is w
-  call_within TakeDatagram e call (room, None, is) = put call _ is w
-  call_within TakeDatagram e call (room, Some (peer, count), is) = put call _ is w
-  call_within (TakeText peer) e call (heard.Quiet, is) = put call _ is w
-  call_within (TakeText peer) e call (_, is) = put call _ is w
-  call_within (SendText peer bytes) e call (outcome.Sent, is) = put call _ is w
-  call_within (SendText peer bytes) e call (outcome.Gone, is) = put call _ is w
-  call_within (Ends end) e call m = absurd m
-  call_within _ e call m = put call _ m w
+-- one report more at most, and that in a turn
+call_within : (config : DriveConfig) (older : History) → Within config older → (d : Due)
+    → Verdict (is_short config older) d → (call : History) → MayAdd d call → Within config (call ++ older)
+call_within config older within d fair call may = grind (arith, nat_tests, within, fair, may)
 
 never_more : (config : DriveConfig) (history : History) → 1 ≤ config.reports → IsProperRun config history
     → Within config history
 never_more config [] some Empty = omega (arith, some)
 never_more config history some (More {older} call may p) =
-    call_within config older (never_more config older some p) (due config older) refl call may
+    call_within config older (never_more config older some p) (due config older) (settled config older) call may
 
 pub reports_as_asked : ReportsAreAsAsked
 reports_as_asked config history some p =
@@ -260,66 +209,33 @@ known_of h = record {
   ended = is_closed h;
 }
 
--- what is known after a datagram that was taken, if one was, and after a text of a session of this kind, and its end
-abbrev landed_at : Option (List ℕ) → ℕ → Known → Known
-landed_at taken reading x = record x {
-  landed = option_to_list (option_map (λ m. record { message = m; reading = reading }) (option_and_then
-      (λ (m : Message). if list_any (λ stamp. is_same_stamp stamp m.originate) (take 64 x.asks) then Some m
-      else None) (option_and_then answer_in taken))) ++ x.landed;
-}
-
-abbrev told_by : Option Kind → List ℕ → Known → Known
-told_by k bytes x = record x {
-  texts = counted (if is_cii k then Some bytes else None) x.texts;
-  state = merged_with (if is_cii k then Some bytes else None) x.texts x.state;
-  control = option_or (option_map control_of (if is_ts k then Some bytes else None)) x.control;
-}
-
-abbrev ended_by : Option Kind → Known → Known
-ended_by k x = record x { ended = is_ts k || x.ended }
-
--- ---- the same, as the happenings have it
+-- the same, as a happening has it
 abbrev after_it : Happening → Known → Known
 after_it Sleep x = record x { asks = []; landed = [] }
 after_it (Asks bytes) x =
     record x { asks = option_to_list (option_map (λ (m : Message). m.originate) (request_in bytes)) ++ x.asks }
-after_it (Lands bytes reading) x = landed_at (Some bytes) reading x
-after_it (TellsCii bytes) x = told_by (Some kind.Cii) bytes x
-after_it (TellsTs bytes) x = told_by (Some kind.Ts) bytes x
+after_it (Lands bytes reading) x = record x {
+  landed = option_to_list (option_map (λ m. record { message = m; reading = reading }) (option_and_then
+      (λ (m : Message). if list_any (λ stamp. is_same_stamp stamp m.originate) (take 64 x.asks) then Some m
+      else None) (answer_in bytes))) ++ x.landed;
+}
+after_it (TellsCii bytes) x =
+    record x { texts = counted (Some bytes) x.texts; state = merged_with (Some bytes) x.texts x.state }
+after_it (TellsTs bytes) x = record x { control = Some (control_of bytes) }
 after_it BeginsTs x = record x { control = None; ended = false }
-after_it EndsTs x = ended_by (Some kind.Ts) x
+after_it EndsTs x = record x { ended = true }
 
 abbrev known_in : List Happening → Known
 known_in [] = record { asks = []; landed = []; texts = 0; state = empty; control = None; ended = false }
 known_in (happening ∷ earlier) = after_it happening (known_in earlier)
 
--- ---- entries that may be no happening
-landing_same : (taken : Option (List ℕ)) (reading : ℕ) (earlier : List Happening) (x : Known) → x ≡ known_in earlier
-    → landed_at taken reading x ≡ known_in (with_happening (landing taken reading) earlier)
-landing_same None reading earlier x e = e
-landing_same (Some bytes) reading earlier x e = ap (after_it (Lands bytes reading)) e
-
-text_same : (k : Option Kind) (bytes : List ℕ) (earlier : List Happening) (x : Known) → x ≡ known_in earlier
-    → told_by k bytes x ≡ known_in (with_happening (text_of k bytes) earlier)
-text_same (Some kind.Cii) bytes earlier x e = ap (after_it (TellsCii bytes)) e
-text_same (Some kind.Ts) bytes earlier x e = ap (after_it (TellsTs bytes)) e
-text_same _ bytes earlier x e = e
-
-end_same : (k : Option Kind) (earlier : List Happening) (x : Known) → x ≡ known_in earlier
-    → ended_by k x ≡ known_in (with_happening (end_of k) earlier)
-end_same (Some kind.Ts) earlier x e = ap (after_it EndsTs) e
-end_same _ earlier x e = e
+known_more : (entry : Entry) (older : History) → known_of older ≡ known_in (happenings older)
+    → known_of (entry ∷ older) ≡ known_in (happenings (entry ∷ older))
+known_more entry older e = grind (arith, e)
 
 known_same : (h : History) → known_of h ≡ known_in (happenings h)
 known_same [] = refl
-known_same (Slept ∷ older) = ap (after_it Sleep) (known_same older)
-known_same (Sent peer bytes ∷ older) = ap (after_it (Asks bytes)) (known_same older)
-known_same (Clock why.Land reading ∷ older) = landing_same (just_taken older) reading _ _ (known_same older)
-known_same (Heard peer bytes ∷ older) = text_same (kind_of peer older) bytes _ _ (known_same older)
-known_same (Closed peer ∷ older) = end_same (kind_of peer older) _ _ (known_same older)
-known_same (Gone peer ∷ older) = end_same (kind_of peer older) _ _ (known_same older)
-known_same (Dialled kind.Ts peer ∷ older) = ap (after_it BeginsTs) (known_same older)
-known_same (_ ∷ older) = known_same older
+known_same (entry ∷ older) = known_more entry older (known_same older)
 
 -- ---- the report
 pub same_events : SameEventsAreReportedAlike

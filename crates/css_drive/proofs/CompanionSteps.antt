@@ -1,15 +1,19 @@
 -- How a run's history goes on by a call.
 use Rattle.std.proofs.Common.{◌≡◌, ℕ, ◌≤◌, ◌<◌, arith, ap, sym, ◌∙◌, subst, refl, Bool, true, false, cond, List, []}
 use Rattle.std.proofs.Common.{◌∷◌, ◌++◌, append_assoc, Option, Some, None, eq-eqb, inl, inr, Result, Ok, Err}
-use Rattle.std.specs.Prelude.{is_some, IfSome, MatchResult, IsErrAnd, ◌&&◌, ◌||◌, OnOk, IfErr, IfOk, ◌<◌}
-use Rattle.std.specs.Option.{option_or}
+use Rattle.std.specs.Prelude.{IfSome, MatchResult, IsErrAnd, ◌||◌, IfOk, ◌<◌}
+use Rattle.css_drive.specs.CompanionStanding.{Shown, facts_of, KnowsPeers, Stands, Knows, KnowsUnder, Comes, Stops}
+use Rattle.css_drive.specs.CompanionStanding.{IsEndBy, IsSo, Fails, Adds, HasDialled, dial_entries, GivesPlace}
+use Rattle.css_drive.specs.CompanionStanding.{asked_after, IsRefusal, HasRead, Goes, IsDue, TakesIn, from_text}
+use Rattle.css_drive.specs.CompanionStanding.{after_text, kind_for, open_of, IsFault}
 use Rattle.std.proofs.lemmas.Bool.{ne_eqb, or_from}
+use Rattle.std.proofs.lemmas.Bool.Decides.{nat_tests}
 use Rattle.css_model.specs.declared.Kind.{Kind}
 use Rattle.css_model.specs.declared.Failure.{Failure}
 use Rattle.css_model.specs.declared.Kind.TheVariants as kind
 use Rattle.css_model.specs.Explains.{IsLawful, IsJustAsked}
 use Rattle.css_model.specs.History.{Address, Dialling, Dialled, History, Entry, NotDialled, Took, Heard, is_sleep}
-use Rattle.css_model.specs.History.{asking_at, request_by, landed_answer, sleeps, Each}
+use Rattle.css_model.specs.History.{Closed, asking_at, request_by, landed_answer, sleeps, Each}
 use Rattle.css_outside.specs.Outsides.{with_entries, Counts, clock_entries, sleep_entries, heard_entries, wrote_entries}
 use Rattle.css_outside.specs.declared.fault.OutFault.{OutFault}
 use Rattle.css_companion.specs.Meanings.{kind_of, is_ts, is_cii, state_of, cii_text, ts_text, opens_ts, closes_ts}
@@ -17,16 +21,12 @@ use Rattle.css_companion.specs.Standing.{Companion}
 use Rattle.css_companion.specs.declared.config.CompanionConfig.{CompanionConfig}
 use Rattle.css_drive.specs.CompanionDue.{due, dial_to, place, from_cii, from_wc, from_ts, from_ask, from_take}
 use Rattle.css_drive.specs.CompanionDue.{from_ts_text, from_end, unless_refused, refusal_of}
-use Rattle.css_drive.specs.CompanionStanding.{Shown, facts_of, KnowsPeers, Stands, Knows, KnowsUnder, Comes, Stops}
-use Rattle.css_drive.specs.CompanionStanding.{IsEndBy, IsSo, Fails, Adds, HasDialled, dial_entries, GivesPlace}
-use Rattle.css_drive.specs.CompanionStanding.{asked_after, IsRefusal, HasRead, Goes, IsDue, TakesIn, from_text}
-use Rattle.css_drive.specs.CompanionStanding.{after_text, kind_for, open_of, IsFault}
-use Rattle.css_drive.specs.CompanionTurns.{dialled, dialled_by, opened, ended_by, open_after, unless, newest, is_peer}
-use Rattle.css_drive.specs.CompanionTurns.{is_kind, asked_turn, is_asking}
+use Rattle.css_drive.specs.CompanionTurns.{dialled, dialled_by, opened, ended_by, open_after, newest, is_peer}
+use Rattle.css_drive.specs.CompanionTurns.{asked_turn, is_asking}
 use Rattle.css_drive.specs.Ends.{MayEnd, IsNetFault, CountsNetFault}
 use Rattle.css_drive.specs.Notes.{Note, noted, dial_notes, standpoint, session_at, slept_notes, landing_notes}
 use Rattle.css_drive.specs.Notes.{heard_notes, wrote_notes}
-use Rattle.css_drive.specs.Stages.{At, DialsTold}
+use Rattle.css_drive.specs.Stages.{At, DialsTold, HearsOnce}
 use Rattle.css_drive.specs.Proper.{Due, Dial, MayAdd, More, Now, TakeDatagram, TakeText, SendText}
 use Rattle.css_drive.specs.declared.companion_live.Live.{Live}
 use Rattle.css_drive.specs.declared.config.DriveConfig.{DriveConfig}
@@ -53,11 +53,6 @@ use Rattle.css_companion.specs.declared.fault.CompanionFault.{CompanionFault}
 use Rattle.css_drive.specs.declared.session.Session.{Session}
 use Rattle.css_drive.specs.declared.session.Session.TheVariants as session
 
--- ---- options
-pub none_if : (o : Option ℕ) → is_some o ≡ false → o ≡ None
-none_if None e = refl
-none_if (Some x) e = absurd (cc)
-
 -- ---- what is told
 pub told_more : (before old new : Option History) (call history : History) → old ≡ with_entries history before
     → new ≡ with_entries call old → new ≡ with_entries (call ++ history) before
@@ -69,46 +64,23 @@ told_more (Some h) old new call history e f =
 pub peers_later : (n m : ℕ) (history : History) → n ≤ m → KnowsPeers n history → KnowsPeers m history
 peers_later n m history le k = λ wanted peer e. (omega (arith, le, (k wanted peer e).0), (k wanted peer e).1)
 
-same_kind : (wanted k : Kind) → is_kind wanted k ≡ true → k ≡ wanted
-same_kind wanted k e = grind (arith, e)
-
 peers_dialled : (n q : ℕ) (k : Kind) (to : Address) (history : History) → KnowsPeers n history → n < q
     → KnowsPeers q (Dialled k q ∷ Dialling k to ∷ history)
-peers_dialled n q k to history known lt wanted peer e = by (is_kind wanted k) refl e
-  where
-    by : (b : Bool) → is_kind wanted k ≡ b → newest (cond b (Some q) None) (dialled wanted history) ≡ Some peer
-        → (peer ≤ q) × (kind_of peer (Dialled k q ∷ Dialling k to ∷ history) ≡ Some wanted)
-    by true is e =
-        let same : q ≡ peer = cc in
-        let P : ℕ → Type 0 = λ x. kind_of x (Dialled k q ∷ Dialling k to ∷ history) ≡ Some wanted in (
-          omega (arith, same),
-          subst P same (ap (λ b. option_or (cond b (Some k) None) (kind_of q history))
-              (eq-eqb q q refl) ∙ ap Some (same_kind wanted k is)),
-        )
-    by false is e =
-        let was = known wanted peer e in (
-          omega (arith, was.0, lt),
-          ap (λ b. option_or (cond b (Some k) None) (kind_of peer history))
-              (ne_eqb q peer (λ e. omega (arith, was.0, lt, e))) ∙ was.1,
-        )
+peers_dialled n q k to history known lt wanted peer e =
+    let was = known wanted peer in grind (arith, nat_tests, lt, was, e)
+
+-- what is open after an entry was dialled last, if what was open before was
+open_last : (new ended was first : Option ℕ) (p : ℕ) → (was ≡ Some p → first ≡ Some p)
+    → open_after new ended was ≡ Some p → newest new first ≡ Some p
+open_last new ended was first p older e = grind (arith, older, e)
 
 -- a session that is opens was dialled
 pub opened_dialled : (wanted : Kind) (history : History) (p : ℕ) → opened wanted history ≡ Some p
     → dialled wanted history ≡ Some p
 opened_dialled wanted [] p e = absurd (cc)
 opened_dialled wanted (entry ∷ older) p e =
-    by (dialled_by wanted entry) (ended_by entry) (opened wanted older) (dialled wanted older)
-    (λ q. opened_dialled wanted older q) e
-  where
-    below : (b : Bool) (was : Option ℕ) → unless b was ≡ Some p → was ≡ Some p
-    below true was e = absurd (cc)
-    below false was e = e
-
-    by : (new ended was first : Option ℕ) → ((q : ℕ) → was ≡ Some q → first ≡ Some q)
-        → open_after new ended was ≡ Some p → newest new first ≡ Some p
-    by (Some x) ended was first older e = e
-    by None None was first older e = older p e
-    by None (Some q) was first older e = older p (below (is_peer was q) was e)
+    open_last (dialled_by wanted entry) (ended_by entry) (opened wanted older) (dialled wanted older) p
+    (opened_dialled wanted older p) e
 
 -- ---- counts
 -- nothing is counted at an end that is no fault of the outside
@@ -332,27 +304,17 @@ module _ {config : DriveConfig} {before now : Shown} {saw : List Note → Type 0
   pub wc_due : due config history ≡ from_wc config history → live.wc ≡ None → (state : State)
       → state ≡ state_of history → (p : Option (Result Address AddressFault)) → place kind.Wc state.wc_url ≡ p
       → due config history ≡ dial_to None kind.Wc WcUrl p (from_ts config history)
-  wc_due d none state told p at =
-      d ∙ ap (λ x. dial_to x kind.Wc WcUrl (place kind.Wc (state_of history).wc_url) (from_ts config history))
-      (ap {A = Live} (λ x. x.wc) s.facts ∙ none)
-      ∙ ap (λ x. dial_to None kind.Wc WcUrl x (from_ts config history))
-      (ap (λ (x : State). place kind.Wc x.wc_url) (sym told) ∙ at)
+  wc_due d none state told p at = let f = s.facts in grind (arith, d, none, told, at, f)
 
   pub ts_due : due config history ≡ from_ts config history → live.ts ≡ None → (state : State)
       → state ≡ state_of history → (p : Option (Result Address AddressFault)) → place kind.Ts state.ts_url ≡ p
       → due config history ≡ dial_to None kind.Ts TsUrl p (from_ask config history)
-  ts_due d none state told p at =
-      d ∙ ap (λ x. dial_to x kind.Ts TsUrl (place kind.Ts (state_of history).ts_url) (from_ask config history))
-      (ap {A = Live} (λ x. x.ts) s.facts ∙ none)
-      ∙ ap (λ x. dial_to None kind.Ts TsUrl x (from_ask config history))
-      (ap (λ (x : State). place kind.Ts x.ts_url) (sym told) ∙ at)
+  ts_due d none state told p at = let f = s.facts in grind (arith, d, none, told, at, f)
 
   -- ---- requests and datagrams
   pub ask_due : due config history ≡ from_ask config history → {p : ℕ} → live.wc ≡ Some p
       → is_asking config.ask_every live.turn live.asked ≡ true → due config history ≡ Now why.Ask
-  ask_due d e is =
-      d ∙ ap {A = Live} (λ x. cond (is_some x.wc && is_asking config.ask_every x.turn x.asked) (Now why.Ask)
-      (from_take config history)) s.facts ∙ rw (e, is)
+  ask_due d e is = let f = s.facts in grind (arith, d, e, is, f)
 
   pub take_due : due config history ≡ from_take config history → {p : ℕ} → live.wc ≡ Some p
       → due config history ≡ TakeDatagram
@@ -371,8 +333,7 @@ module _ {config : DriveConfig} {before now : Shown} {saw : List Note → Type 0
 slept_facts : (config : DriveConfig) (history : History) (slept : Bool)
     → facts_of config (sleep_entries slept ++ history)
     ≡ record (facts_of config history) { asked = asked_after slept (asked_turn history) }
-slept_facts config history true = refl
-slept_facts config history false = refl
+slept_facts config history slept = grind arith
 
 slept_peers : (peers : ℕ) (history : History) (slept : Bool) → KnowsPeers peers history
     → KnowsPeers peers (sleep_entries slept ++ history)
@@ -382,8 +343,7 @@ slept_peers peers history false k = k
 pub slept_noted : (config : DriveConfig) (history : History) (slept : Bool)
     → noted config (sleep_entries slept ++ history)
     ≡ slept_notes (standpoint config history) slept ++ noted config history
-slept_noted config history true = refl
-slept_noted config history false = refl
+slept_noted config history slept = grind arith
 
 -- after a reading the run stands
 module _ {config : DriveConfig} {before now next : Shown} {saw : List Note → Type 0} {live later : Live}
@@ -415,13 +375,7 @@ stands_asked {config} {after = after} {history = history} s d clocked r notes =
 landed_notes : (config : DriveConfig) (clocked : Clocked) (p : ℕ) (bytes : List ℕ) (history : History)
     → noted config (clock_entries why.Land clocked ++ (Took p bytes ∷ history))
     ≡ landing_notes (standpoint config (Took p bytes ∷ history)) clocked bytes ++ noted config history
-landed_notes config clocked p bytes history = by clocked.slept
-  where
-    by : (b : Bool) → noted config (clock_entries why.Land (record clocked { slept = b }) ++ (Took p bytes ∷ history))
-        ≡ landing_notes (standpoint config (Took p bytes ∷ history)) (record clocked { slept = b }) bytes
-        ++ noted config history
-    by true = refl
-    by false = refl
+landed_notes config clocked p bytes history = grind arith
 
 pub stands_landed : {config : DriveConfig} {before now next : Shown} {saw after : List Note → Type 0}
     {live later : Live} {was is : Companion} {history : History} {p : ℕ} {bytes : List ℕ}
@@ -453,24 +407,20 @@ module _ {config : DriveConfig} {before now : Shown} {saw : List Note → Type 0
   -- ---- what it is to be asked
   text_due : (which : Session) → due config history ≡ from_text which config history → {p : ℕ}
       → open_of which live ≡ Some p → due config history ≡ TakeText p
-  text_due session.Cii d at = d ∙ rw (ap {A = Live} (λ x. x.cii_open) s.facts ∙ at)
-  text_due session.Ts d at = d ∙ rw (ap {A = Live} (λ x. x.ts_open) s.facts ∙ at)
+  text_due which d at = let f = s.facts in grind (arith, d, at, f)
 
 -- ---- notes
-pub heard_noted : (config : DriveConfig) (p : ℕ) (answer : Answer) (which : Session) (history : History)
+pub heard_noted : (config : DriveConfig) (p : ℕ) (said : Answer) (which : Session) (history : History)
     → session_at p history ≡ Some which
-    → noted config (heard_entries p answer ++ history)
-    ≡ heard_notes which (standpoint config history) answer ++ noted config history
-heard_noted config p answer.Quiet which history e = refl
-heard_noted config p (answer.Text text) which history e = rw e
-heard_noted config p answer.Closed which history e = rw e
+    → noted config (heard_entries p said ++ history)
+    ≡ heard_notes which (standpoint config history) said ++ noted config history
+heard_noted config p said which history e = grind (arith, e)
 
 pub wrote_noted : (config : DriveConfig) (p : ℕ) (text : List ℕ) (wrote : Outcome) (history : History)
     → session_at p history ≡ Some session.Ts
     → noted config (wrote_entries p text wrote ++ history)
     ≡ wrote_notes (standpoint config history) wrote ++ noted config history
-wrote_noted config p text outcome.Sent history e = refl
-wrote_noted config p text outcome.Gone history e = rw e
+wrote_noted config p text wrote history e = grind (arith, e)
 
 -- ---- texts
 -- what is due after a session was asked for a text
@@ -479,8 +429,7 @@ pub asked : (which : Session) (config : DriveConfig) (entry : Entry) (p : ℕ) (
     → due config (entry ∷ history)
     ≡ cond (is_ts (kind_of p history)) (from_end config (entry ∷ history)) (from_ts_text config (entry ∷ history))
     → due config (entry ∷ history) ≡ after_text which config (entry ∷ history)
-asked session.Cii config entry p history is e = e ∙ rw is
-asked session.Ts config entry p history is e = e ∙ rw is
+asked which config entry p history is e = grind (arith, is, e)
 
 -- and where it gave one
 heard : (which : Session) (config : DriveConfig) (p : ℕ) (bytes : List ℕ) (history : History)
@@ -488,8 +437,7 @@ heard : (which : Session) (config : DriveConfig) (p : ℕ) (bytes : List ℕ) (h
     → due config (Heard p bytes ∷ history)
     ≡ unless_refused (refusal_of (cond (is_cii (Some (kind_for which))) (Some bytes) None) history)
     (after_text which config (Heard p bytes ∷ history))
-heard session.Cii config p bytes history is = rw is
-heard session.Ts config p bytes history is = rw is
+heard which config p bytes history is = grind (arith, is)
 
 -- a refused text ends the run so
 pub refusal_ends : (refusal : Option CompanionFault) (rest : Due) (ended : Driven) → IsRefusal refusal ended
@@ -511,6 +459,17 @@ text_goes {config} {p = p} {bytes = bytes} {history = history} s lawful which k 
 text_goes {config} {p = p} {bytes = bytes} {history = history} s lawful which k over is (Err ended) refused =
     stops_here s (lawful_plain (Heard p bytes) history lawful refl refl) over ended (refusal_own _ ended refused)
     (ends_by _ _ ended (heard which config p bytes history k) (refusal_ends _ _ ended refused))
+
+-- and so it is a stage that hears a session
+pub text_heard : {binding : Binding} (over : Option OutFault) (which : Session) {p : ℕ} {text : List ℕ} {old : At}
+    (new : At) → Adds old.shown new.shown (heard_entries p (answer.Text text)) → new.live ≡ old.live
+    → (result : Result Bool Driven) → IfOk result (λ came. came ≡ true)
+    → ((own : CompanionConfig) (h : History) → kind_of p h ≡ Some (kind_for which)
+    → KnowsUnder binding own old.companion h → TakesIn binding own which p text h new.companion result)
+    → HearsOnce binding over which (Some p) old new result
+text_heard over which {text = text} new a live (Ok value) came takes =
+    (answer.Text text, record { called = a; live = live; known = takes }, came)
+text_heard over which {text = text} new a live (Err ended) came takes = inr (answer.Text text, a, live, takes)
 
 -- ---- counts
 -- a call that went well and is no dial
@@ -551,16 +510,7 @@ module _ {config : DriveConfig} {before now : Shown} {saw : List Note → Type 0
       peers outcome.Sent = s.peers
       peers outcome.Gone = s.peers
 
--- ---- the companion is told
--- it was told of what is added, or memory ran out
-pub told_goes : {T : Type 0} {config : DriveConfig} {before now : Shown} {saw : List Note → Type 0} {live : Live}
-    {history : History} → Stands config before now saw live history → IsLawful history → (over : Option OutFault)
-    → (is : Companion) (at : T → History → Type 0) → ((value : T) → at value history) → (result : Result T Driven)
-    → OnOk result (Knows config.companion is history) → IfErr result (λ ended. ended ≡ driven.Memory)
-    → Goes config before now saw over live is at result
-told_goes s lawful over is at next (Ok value) told memory = comes s told (at value) (next value)
-told_goes s lawful over is at next (Err ended) told memory = stops_by_memory s lawful over ended memory
-
+-- ---- ends by an address
 -- a bad address ends the run
 pub bad_stops : {config : DriveConfig} {before now : Shown} {saw : List Note → Type 0} {live : Live}
     {history : History} → Stands config before now saw live history → IsLawful history → {over : Option OutFault}

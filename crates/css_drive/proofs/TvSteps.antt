@@ -1,9 +1,9 @@
 -- How a television's run comes on by a call of the outside, by an event, by a line of the script, and from part to part
 -- of its loop.
-use Rattle.std.proofs.Common.{◌≡◌, ℕ, ◌+◌, ◌≤◌, ◌<◌, Bool, false, true, cond, List, [], ◌∷◌, ◌++◌, Option, Some, None}
-use Rattle.std.proofs.Common.{refl, sym, ap, subst, ◌∙◌, arith, drop, Result, Ok, Err, length, get_or, inl, inr, ◌⊎◌}
-use Rattle.std.proofs.Common.{◌-◌, MatchResult}
-use Rattle.std.specs.Prelude.{◌≢◌, ◌&&◌, ⊤, IfSome, nat_lt}
+use Rattle.std.proofs.Common.{◌≡◌, ℕ, ◌+◌, ◌≤◌, ◌<◌, false, true, cond, List, [], ◌∷◌, ◌++◌, Option, Some, None, refl}
+use Rattle.std.proofs.Common.{sym, ap, subst, ◌∙◌, arith, drop, Result, Ok, Err, length, get_or, inl, inr, ◌⊎◌, ◌-◌}
+use Rattle.std.proofs.Common.{MatchResult}
+use Rattle.std.specs.Prelude.{◌≢◌, ◌&&◌, ⊤, IfSome}
 use Rattle.std.specs.Option.{option_map, option_to_list}
 use Rattle.std.proofs.lemmas.Bool.Decides.{nat_tests}
 use Rattle.std.proofs.lemmas.Grind.{common_steps}
@@ -53,7 +53,7 @@ use Rattle.css_drive.specs.declared.turns.OnAir.{OnAir}
 use Rattle.css_drive.specs.declared.turns.Turns.{Turns}
 use Rattle.css_drive.proofs.CompanionSteps as companion
 use Rattle.css_drive.proofs.CompanionEnds.{no_entries}
-use Rattle.css_drive.proofs.TvTold.{IsNoOpening, is_fresh, opens_none, all_good}
+use Rattle.css_drive.proofs.TvTold.{IsNoOpening, is_fresh, opens_none, followed, all_good}
 
 -- ---- lines that wait
 pub carry_stops : (a : Addresses) (s r : ℕ) (lines : List ScriptLine) (p : Progress) → is_free p ≡ false
@@ -139,9 +139,7 @@ module _ {from : From} {now next : Shown} {p : Progress} {h : History} (t : Told
 -- a call fails, by which no session comes
 faulty : (run : TvRun) (h : History) (ended : Driven) → IsFault ended
     → MayEnd (due run h) ended × MadeTurns run h ended × (ended ≢ driven.WriteFault)
-faulty run h (driven.NetFault failure) is = (tt, tt, λ e. cc)
-faulty run h driven.Memory is = (tt, tt, λ e. cc)
-faulty run h _ is = absurd is
+faulty run h ended is = grind (arith, is)
 
 pub failed : {from : From} {now next : Shown} {p : Progress} {h : History} {ended : Driven} → Told from now p h
     → shared.Fails now next None ended → Stops from next ended
@@ -166,12 +164,7 @@ first_above : (last : Option ℕ) (ss : List Session) → IsFirst (next_open las
 first_above None [] = refl
 first_above None (s ∷ ss) = (peers ss, refl)
 first_above (Some last) [] = refl
-first_above (Some last) (s ∷ ss) = go (nat_lt last s.peer) (first_above (Some last) ss) where
-  go : (b : Bool) → IsFirst (next_open (Some last) ss) (above (Some last) (peers ss))
-      → IsFirst (cond b (Some s.peer) (next_open (Some last) ss))
-      (cond b (s.peer ∷ above (Some last) (peers ss)) (above (Some last) (peers ss)))
-  go true ih = (above (Some last) (peers ss), refl)
-  go false ih = ih
+first_above (Some last) (s ∷ ss) = let ih = first_above (Some last) ss in grind (arith, ih)
 
 -- how many peers may come after the last one
 abbrev pub room_after : Option ℕ → ℕ
@@ -182,12 +175,9 @@ pub later : (last : Option ℕ) (ss : List Session) (peer : ℕ) → Some peer �
     → room_after (Some peer) < room_after last
 later None ss peer e lt = omega arith
 later (Some last) [] peer e lt = absurd (cc)
-later (Some last) (s ∷ ss) peer e lt = go (nat_lt last s.peer) refl e (λ e. later (Some last) ss peer e lt) where
-  go : (b : Bool) → nat_lt last s.peer ≡ b → Some peer ≡ cond b (Some s.peer) (next_open (Some last) ss)
-      → (Some peer ≡ next_open (Some last) ss → room_after (Some peer) < room_after (Some last))
-      → room_after (Some peer) < room_after (Some last)
-  go true is e on = let same : peer ≡ s.peer = cc in grind (arith, nat_tests)
-  go false is e on = on e
+later (Some last) (s ∷ ss) peer e lt =
+    let ih = λ (e : Some peer ≡ next_open (Some last) ss). later (Some last) ss peer e lt in
+    grind (arith, nat_tests, ih, e, lt)
 
 module _ {from : From} {now : Shown} {air : OnAir} {to : List TvEvent → Progress} (x : Airs from now air to) where
   -- with other values of the loop, and where more is told
@@ -297,7 +287,7 @@ module _ {from : From} {now : Shown} {air : OnAir} where
   no_life x peer lt =
       ap (λ (p : Progress). life_of peer (calls_of (addresses_in from.run.config) p.events).sessions)
       (sym x.history.progress)
-      ∙ (all_good from.run x.h x.history.proper x.history.numbered peer).unused
+      ∙ (all_good from.run x.h (followed from.run x.h x.history.proper) x.history.numbered peer).unused
       (below_later _ _ x.h (omega (arith, lt)) x.history.below)
 
   pub unused_of : {place : Place} → IsAt place from now air → IsUnused now air.tv

@@ -2,40 +2,28 @@
 -- the session was to be told.
 use Rattle.std.proofs.Common.{◌≡◌, ℕ, ◌≤◌, ◌<◌, Bool, true, false, cond, eqb, List, [], ◌∷◌, ◌++◌, length, Option, Some}
 use Rattle.std.proofs.Common.{None, refl, sym, ap, subst, ◌∙◌, arith, append-nil, Result, Ok, Err, suc, length-append}
-use Rattle.std.specs.Prelude.{⊤, ◌==◌, ◌||◌, nat_lt, map, reverse, option_map, option_and_then, IfSome, ◌&&◌}
+use Rattle.std.specs.Prelude.{⊤, ◌||◌, map, reverse, option_map, IfSome, ◌&&◌}
 use Rattle.std.specs.List.{filter_map}
 use Rattle.std.proofs.lemmas.List.{length-reverse}
+use Rattle.std.proofs.lemmas.Bool.{and_parts, cond_both}
 use Rattle.std.proofs.lemmas.Bool.Decides.{nat_tests}
 use Rattle.css_player.specs.Player.{Player}
-use Rattle.css_player.specs.Segments.{with_programme, with_timeline, with_delay, commanded}
-use Rattle.css_player.specs.Events.{TimelineAdded, Commanded}
-use Rattle.css_player.specs.declared.command.PlayerFault.{PlayerFault}
 use Rattle.css_cii.specs.declared.state.State.{State}
-use Rattle.css_tsmsg.specs.Setups.{setup_of}
-use Rattle.css_tsmsg.specs.Presentations.{presentation_of}
 use Rattle.css_tsmsg.specs.declared.bound.Presentation.{Presentation}
 use Rattle.css_tsmsg.specs.declared.setup.Setup.{Setup}
-use Rattle.css_tsmsg.specs.declared.fault.TsFault.{TsFault}
 use Rattle.css_num.specs.declared.protocol.Kind.{Kind}
 use Rattle.css_num.specs.declared.protocol.Kind.TheVariants as kind
-use Rattle.css_sessions.specs.Kept.{Event, Opened, SetUp, Published, Presented, Dropped, Closed, Kept, Rising, talk_of}
-use Rattle.css_sessions.specs.Kept.{set_up_in, news_of_talk, difference_text}
+use Rattle.css_sessions.specs.Kept.{Event, Opened, SetUp, Published, Presented, Dropped, Closed, Kept, Rising}
+use Rattle.css_sessions.specs.Kept.{difference_text}
 use Rattle.css_sessions.specs.declared.session.Said.{Said}
-use Rattle.css_sessions.specs.declared.session.Talk.{Talk}
-use Rattle.css_sessions.specs.declared.session.Talk.TheVariants as talk
-use Rattle.css_sessions.specs.Told.{Life, Lived, IsLawful, IsAccepted, life_of, living, set_life, grown_life, ended}
-use Rattle.css_sessions.specs.Told.{when, born, state_of, sessions_of, said_to, texts_of, with_text, texts_of_lived}
+use Rattle.css_sessions.specs.Told.{Life, Lived, IsLawful, IsAccepted, life_of, ended, when, sessions_of, said_to}
+use Rattle.css_sessions.specs.Told.{texts_of, with_text, texts_of_lived}
 use Rattle.css_sessions.proofs.InForce.{peers}
 use Rattle.css_sessions.proofs.Talks.{said_to-news}
 use Rattle.css_sessions.proofs.Telling.{is_kept}
 use Rattle.css_schedule.specs.declared.line.Verb.{Verb}
-use Rattle.css_schedule.specs.declared.line.Verb.TheVariants as verb
 use Rattle.css_schedule.specs.declared.line.ScriptLine.{ScriptLine}
-use Rattle.css_tv.specs.Stages.{max_sessions}
-use Rattle.css_tv.specs.Outcomes as outcomes
-use Rattle.css_tv.specs.Outcomes.{Outcome, outcome, said_after, by_player, programme_added, timeline_added, viewed}
-use Rattle.css_tv.specs.Outcomes.{choice, windows_after}
-use Rattle.css_tv.specs.States.{published_state}
+use Rattle.css_tv.specs.Outcomes.{Outcome, outcome, said_after}
 use Rattle.css_tv.specs.Standing.{Calls, IsFresh, calls_of, with_outcome, said_by, player_after, texts_after}
 use Rattle.css_tv.specs.declared.event.TvEvent.{TvEvent}
 use Rattle.css_tv.specs.declared.event.TvEvent.TheVariants as event
@@ -44,31 +32,22 @@ use Rattle.css_tv.specs.declared.event.TvOut.TheVariants as out
 use Rattle.css_tv.specs.declared.fault.TvFault.{TvFault}
 use Rattle.css_tv.specs.declared.state.Addresses.{Addresses}
 use Rattle.css_tv.proofs.More.{said_in, texts_all}
-use Rattle.css_tv.specs.declared.fault.TvFault.TheVariants as fault
-use Rattle.css_drive.specs.TvDue.{above, TvRun, due, due_at, from_hang_ups, from_texts, unless_owed, unless_refused}
-use Rattle.css_drive.specs.TvProgress.{open_after, outcome_after, outs_in, outs_after, event_of, Place, Begins, Listens}
-use Rattle.css_drive.specs.TvProgress.{Turned, Taken, Received, Answers, Served, Asked, Over, Progress, happened}
-use Rattle.css_drive.specs.TvProgress.{played, played_if, with_line, is_free, is_free_of, is_due, carry, settled_at}
-use Rattle.css_drive.specs.TvProgress.{settled, ticketed, received_at, answered_at, after, without_first, one_done}
-use Rattle.css_drive.specs.TvProgress.{hung_up, addresses_in, progress_of, begun, since, goes_on, is_over}
-use Rattle.css_drive.specs.Proper.{Due, Now, TakeDatagram, Ends, MayAdd, IsProper, Empty, More}
+use Rattle.css_drive.specs.TvDue.{above, TvRun, due, due_at, due_for, from_hang_ups, from_texts, unless_owed}
+use Rattle.css_drive.specs.TvDue.{unless_refused}
+use Rattle.css_drive.specs.TvProgress.{outcome_after, outs_in, outs_after, event_of, Place, Turned, Asked, Over}
+use Rattle.css_drive.specs.TvProgress.{Progress, happened, played, played_if, with_line, is_free, is_free_of, is_due}
+use Rattle.css_drive.specs.TvProgress.{carry, settled_at, settled, after, without_first, one_done, hung_up}
+use Rattle.css_drive.specs.TvProgress.{addresses_in, progress_of, begun, since}
+use Rattle.css_drive.specs.Proper.{Due, SendText, HangUp, Ends, MayAdd, IsProper, Empty, More}
 use Rattle.css_drive.specs.TvRan.{AreBelow, AreNumbered}
 use Rattle.css_drive.specs.TvTold.{sent_to, is_gone, lost, SessionsAreTold}
 use Rattle.css_drive.specs.declared.driven.Driven.TheVariants as driven
 use Rattle.css_drive.specs.declared.turns.Turns.{Turns}
-use Rattle.css_model.specs.declared.Kind.{Kind as PeerKind}
 use Rattle.css_model.specs.declared.Kind.TheVariants as peer_kind
 use Rattle.css_model.specs.declared.Why.{Why}
 use Rattle.css_model.specs.declared.Why.TheVariants as why
-use Rattle.css_model.specs.History.{History, Clock, Accepted, Wrote, Gone, HungUp}
-use Rattle.css_outside.specs.Outsides.{opening_entries, datagram_entries, heard_entries, wrote_entries, clock_entries}
-use Rattle.css_outside.specs.declared.calls.Clocked.{Clocked}
-use Rattle.css_outside.specs.declared.calls.Heard.{Heard as SessionHeard}
-use Rattle.css_outside.specs.declared.calls.Heard.TheVariants as heard
-use Rattle.css_outside.specs.declared.calls.Wrote.{Wrote as Outgoing}
-use Rattle.css_outside.specs.declared.calls.Wrote.TheVariants as outgoing
-use Rattle.css_server.specs.Tickets.{Ticket, received}
-use Rattle.css_server.specs.declared.fault.ServeFault.{ServeFault}
+use Rattle.css_model.specs.History.{Entry, Each, History, Clock, Accepted, Heard, Wrote, Gone, HungUp}
+use Rattle.css_model.specs.History.{Closed as ClosedEntry}
 
 -- ---- events
 -- an event other than an opening
@@ -82,19 +61,14 @@ IsOther peer (event.Opened p kind) = eqb p peer ≡ false
 IsOther peer _ = ⊤
 
 pub is_other : (peer : ℕ) (e : TvEvent) → IsNoOpening e → IsOther peer e
-is_other peer (event.Opened p kind) n = absurd n
-is_other peer _ n = tt
+is_other peer e n = grind (arith, n)
 
 pub is_fresh : (e : TvEvent) → IsNoOpening e → (h : List Event) → IsFresh e h
-is_fresh (event.Opened peer kind) n h = absurd n
-is_fresh _ n h = tt
+is_fresh e n h = grind (arith, n)
 
 -- an event of a line opens no session
 pub opens_none : (r : ℕ) (v : Verb) → IfSome (event_of r v) IsNoOpening
-opens_none r (verb.Programme id) = tt
-opens_none r (verb.Timeline m selector rate base) = tt
-opens_none r (verb.Viewer unused command) = tt
-opens_none r _ = tt
+opens_none r v = grind arith
 
 -- ---- the calls of an event
 abbrev pub called_in : Result Outcome TvFault → List Event
@@ -120,85 +94,23 @@ data IsCalled (h : List Event) : TvEvent → List Event → Type 0 where
   Places : {e : TvEvent} {called : List Event} (peer : ℕ) (q : Presentation) (before : Player) → IsCalled h e called
       → IsCalled h e (Presented peer q before ∷ called)
 
-waits : (t : Option Talk) → set_up_in t ≡ Some false → t ≡ Some talk.Waiting
-waits (Some talk.Waiting) e = refl
-waits _ e = absurd (cc)
-
-module _ {e : TvEvent} (h : List Event) (a : Addresses) (p : Player) where
-  by_call : (f : Player → Outcome) → ((q : Player) → IsCalled h e (f q).called) → (r : Result Player PlayerFault)
-      → IsCalled h e (called_in (by_player f r))
-  by_call f called (Err fault) = Nothing
-  by_call f called (Ok q) = called q
-
-  by_setup : (peer : ℕ) (r : Result Setup TsFault) → talk_of peer (sessions_of h).list ≡ Some talk.Waiting
-      → IsCalled h e (outcomes.by_setup peer p r).called
-  by_setup peer (Err f) waiting = Closes peer
-  by_setup peer (Ok u) waiting = SetsUp peer u p waiting
-
-  by_choice : (peer : ℕ) (q : Presentation) (o : Option ℕ) → IsCalled h e (outcomes.presented a peer q p o).called
-  by_choice peer q None = Places peer q p Nothing
-  by_choice peer q (Some delay) =
-      let shown = with_delay delay p in Places peer q p (Shows (published_state a shown) shown)
-
-  by_presentation : (peer : ℕ) (k : Kept) (r : Result Presentation TsFault)
-      → IsCalled h e (outcomes.by_presentation a peer p k r).called
-  by_presentation peer k (Err f) = Closes peer
-  by_presentation peer k (Ok q) = by_choice peer q (choice p.segment (windows_after peer q p k))
-
-  by_text : (peer : ℕ) (bytes : List ℕ) (o : Option Bool) → set_up_in (talk_of peer (sessions_of h).list) ≡ o
-      → IsCalled h e (outcomes.heard a peer bytes p (sessions_of h) o).called
-  by_text peer bytes None e = Closes peer
-  by_text peer bytes (Some false) e = by_setup peer (setup_of bytes) (waits (talk_of peer (sessions_of h).list) e)
-  by_text peer bytes (Some true) e = by_presentation peer (sessions_of h) (presentation_of bytes)
-
-by_opening : {h : List Event} (p : Player) (peer : ℕ) (kind : Kind) → IsFresh (event.Opened peer kind) h → (room : Bool)
-    → IsCalled h (event.Opened peer kind) (outcomes.opened (Opened peer kind) peer room p).called
-by_opening p peer kind fresh true = Opens peer kind fresh
-by_opening p peer kind fresh false = Closes peer
-
 is_called : (h : List Event) (a : Addresses) (p : Player) (e : TvEvent) → IsFresh e h
     → IsCalled h e (called_in (outcome a e p (sessions_of h)))
-is_called h a p (event.Programme id) fresh =
-    by_call h a p (programme_added id) (λ q. Nothing) (with_programme id p)
-is_called h a p (event.AddTimeline m selector rate base) fresh =
-    by_call h a p (timeline_added a (TimelineAdded m selector rate base)) (λ q. Shows (published_state a q) q)
-    (with_timeline m selector rate base p)
-is_called h a p (event.Viewer command reading) fresh =
-    by_call h a p (viewed a (Commanded command reading)) (λ q. Drops (Shows (published_state a q) q))
-    (commanded command reading p)
-is_called h a p (event.Opened peer kind) fresh =
-    by_opening p peer kind fresh (nat_lt (length (sessions_of h).list) max_sessions)
-is_called h a p (event.Heard peer bytes) fresh =
-    by_text h a p peer bytes (set_up_in (talk_of peer (sessions_of h).list)) refl
-is_called h a p (event.Closed peer) fresh = Closes peer
+is_called h a p e fresh = grind (arith, fresh, Nothing, Opens, SetsUp, Shows, Closes, Drops, Places)
 
 -- ---- lives
 -- what no call changes but an opening: no session, or one that is over
-pub record IsOver (life : Option Lived) : Type 0 where
-  pub lives : (f : Life → Life) → option_map (living f) life ≡ life
-  pub ends : option_map ended life ≡ life
-
-pub none_over : IsOver None
-none_over = record { lives = λ f. refl; ends = refl }
-
-same_when : (b : Bool) (f : Option Lived → Option Lived) {o life : Option Lived} → o ≡ life → f life ≡ life
-    → when b f o ≡ life
-same_when true f e same = ap f e ∙ same
-same_when false f e same = e
+abbrev pub IsOver : Option Lived → Type 0
+IsOver None = ⊤
+IsOver (Some lived) = lived.over ≡ true
 
 module _ (peer : ℕ) (h : List Event) {life : Option Lived} (o : IsOver life) (is : life_of peer h ≡ life) where
   calls_keep : {e : TvEvent} {called : List Event} → (life ≡ None → IsOther peer e) → IsCalled h e called
       → life_of peer (called ++ h) ≡ life
-  calls_keep other (Opens p k fresh) = by (eqb p peer) refl where
-    by : (b : Bool) → eqb p peer ≡ b → when b (λ _. Some (born k (state_of h))) (life_of peer h) ≡ life
-    by false differs = is
-    by true same = absurd (let p_is : p ≡ peer = grind (arith, nat_tests) in
-        let differs : eqb p peer ≡ false = other (sym is ∙ ap (λ q. life_of q h) (sym p_is) ∙ fresh) in cc)
-  calls_keep other (SetsUp p u player waiting) =
-      same_when (p == peer) (option_map (living (set_life u player))) is (o.lives (set_life u player))
-  calls_keep other (Shows s player) =
-      ap (option_map (living (grown_life s player))) is ∙ o.lives (grown_life s player)
-  calls_keep other (Closes p) = same_when (p == peer) (option_map ended) is o.ends
+  calls_keep other (Opens p k fresh) = grind (arith, nat_tests, is, fresh, other)
+  calls_keep other (SetsUp p u player waiting) = grind (arith, o, is)
+  calls_keep other (Shows s player) = grind (arith, o, is)
+  calls_keep other (Closes p) = grind (arith, o, is)
   calls_keep other (Drops called) = calls_keep other called
   calls_keep other (Places p q before called) = calls_keep other called
   calls_keep other Nothing = is
@@ -223,22 +135,12 @@ news-of-outcome peer (Ok o) kept = ap (said_to peer) (said_in o kept [])
 abbrev Few : ℕ → List Said → Type 0
 Few peer said = length (said_to peer said) ≤ 1
 
-few-one : (said : Said) (b : Bool) → length (map (λ s. s.text) (cond b (said ∷ []) [])) ≤ 1
-few-one said true = omega arith
-few-one said false = omega arith
-
-few-text : (o : Option (List ℕ)) → length (with_text o []) ≤ 1
-few-text None = omega arith
-few-text (Some text) = omega arith
-
 few-called : (peer : ℕ) {h : List Event} {e : TvEvent} {called : List Event} (k : Kept) → IsCalled h e called
     → Rising 0 k.list → Few peer (said_after called k)
-few-called peer k (Opens p kind.Cii fresh) rising = few-one _ (eqb p peer)
-few-called peer k (SetsUp p u player waiting) rising = few-one _ (eqb p peer)
+few-called peer k (Opens p kind.Cii fresh) rising = grind arith
+few-called peer k (SetsUp p u player waiting) rising = grind arith
 few-called peer k (Shows state player) rising =
-    let change = difference_text k.state state in
-    subst (λ (texts : List (List ℕ)). length texts ≤ 1) (sym (said_to-news change player peer 0 k.list rising))
-    (few-text (option_and_then (news_of_talk change player) (talk_of peer k.list)))
+    let news = said_to-news (difference_text k.state state) player peer 0 k.list rising in grind (arith, news)
 few-called peer k (Drops is) rising = subst (Few peer) (sym (append-nil _)) (few-called peer k is rising)
 few-called peer k (Places p q before is) rising =
     subst (Few peer) (sym (append-nil _)) (few-called peer k is rising)
@@ -286,16 +188,9 @@ adds_nothing (x ∷ xs) ys e =
     let m : length (reverse (x ∷ xs)) ≡ suc (length xs) = length-reverse (x ∷ xs) in
     absurd (omega (arith, n, m))
 
-pub none_there : {X : Type 0} (xs : List X) → length xs ≤ 0 → xs ≡ []
-none_there [] le = refl
-none_there (x ∷ xs) le = absurd (let f : suc (length xs) ≤ 0 = le in omega (arith, f))
-
 -- ---- what a session was told
 abbrev gone_life : Life → Option Lived
 gone_life life = Some (record { life = life; over = true })
-
-gone_over : (life : Life) → IsOver (gone_life life)
-gone_over life = record { lives = λ f. refl; ends = refl }
 
 -- A session with this life was sent all that it was to be told; or all but a text that is owed to it; or all but one
 -- that was told as gone, and then it is over.
@@ -312,8 +207,7 @@ telling_on : {life : Option Lived} {sent : List (List ℕ)} {gone : Bool} (life'
     → Telling life' sent gone news
 telling_on life' [] texts few stays (Whole e) = Whole (texts ∙ e)
 telling_on life' (text ∷ []) texts few stays (Whole e) = Owed text (texts ∙ ap (λ xs. text ∷ xs) e)
-telling_on life' (text ∷ other ∷ news) texts few stays (Whole e) =
-    absurd (let f : suc (suc (length news)) ≤ 1 = few in omega (arith, f))
+telling_on life' (text ∷ other ∷ news) texts few stays (Whole e) = absurd (omega (arith, few))
 telling_on {life} {sent} life' news texts few stays (Lost text e l over) =
     let same : life' ≡ life = stays l over ∙ sym over in
     subst (Telling life' sent true)
@@ -361,16 +255,15 @@ stands_event a peer sent gone old new e es owed s none fresh was =
       lawful = event-lawful a e es s.lawful fresh;
       telling = telling_on _ (news_of peer now) (event-texts a e es s.lawful fresh peer)
           (event-few a e es s.lawful fresh peer)
-          (λ l over. event_keeps a e es peer (gone_over l) fresh (λ none. absurd (cc)) over)
+          (λ l over. event_keeps a e es peer {life = gone_life l} refl fresh (λ none. absurd (cc)) over)
           (subst (λ (os : List TvOut). Telling (life_of peer (calls_of a es).sessions) sent gone (news_of peer os)) none
           s.telling);
-      unused = λ n. event_keeps a e es peer none_over fresh (λ none. (was n).1) (s.unused (was n).0);
+      unused = λ n. event_keeps a e es peer {life = None} tt fresh (λ none. (was n).1) (s.unused (was n).0);
     })
 
 -- ---- what holds at each place
 free_owes : (r : Option TvFault) (owed : List TvOut) → is_free_of r owed ≡ true → owed ≡ []
-free_owes None [] e = refl
-free_owes _ _ e = absurd (let f : false ≡ true = e in cc)
+free_owes r owed e = grind (arith, e)
 
 -- as the run goes on by no opening, with nothing sent to the session
 module _ (a : Addresses) (peer : ℕ) (sent : List (List ℕ)) (gone : Bool) (new : Type 0) where
@@ -390,16 +283,11 @@ module _ (a : Addresses) (peer : ℕ) (sent : List (List ℕ)) (gone : Bool) (ne
       → At (carry a from reading lines p)
   kept_carry from reading [] p s = s
   kept_carry from reading (line ∷ left) p s =
-      by (is_free p) (is_due from reading line) refl (kept_carry from reading left (with_line a reading line left p))
-    where
-      by : (free due : Bool) → is_free p ≡ free
-          → (At (with_line a reading line left p)
-          → At (carry a from reading left (with_line a reading line left p)))
-          → At (cond (free && due) (carry a from reading left (with_line a reading line left p)) p)
-      by true true e on =
-          on (kept_if left p (event_of reading line.verb) (opens_none reading line.verb)
-          (free_owes p.refused p.owed e) s)
-      by _ _ e on = s
+      cond_both (is_free p && is_due from reading line) (carry a from reading left (with_line a reading line left p)) p At
+      (λ e. kept_carry from reading left (with_line a reading line left p)
+      (kept_if left p (event_of reading line.verb) (opens_none reading line.verb)
+      (free_owes p.refused p.owed (and_parts _ _ e).0) s))
+      (λ e. s)
 
   kept_settled : (p : Progress) → At p → At (settled a p)
   kept_settled p s = by p.place where
@@ -407,22 +295,65 @@ module _ (a : Addresses) (peer : ℕ) (sent : List (List ℕ)) (gone : Bool) (ne
     by (Turned reading) = kept_carry (since p.turns) reading p.lines p s
     by _ = s
 
-  kept_received : (reading : ℕ) (place : Place) (p : Progress) → At p → At (received_at reading place p)
-  kept_received reading (Taken other bytes) p s = by (received p.server bytes reading) where
-    by : (r : Result Ticket ServeFault) → At (ticketed other reading p r)
-    by (Err f) = s
-    by (Ok ticket) = s
-  kept_received reading _ p s = s
-
-  kept_answered : (reading : ℕ) (place : Place) (p : Progress) → At p → At (answered_at reading place p)
-  kept_answered reading (Received other ticket) p s = s
-  kept_answered reading _ p s = s
-
+  -- a reading for a request and one for its answer
   kept_clock : (w : Why) (reading : ℕ) (p : Progress) → At p → At (after a (Clock w reading) p)
   kept_clock why.Turn reading p s = kept_settled (record p { turns = begun reading p.turns; place = Turned reading }) s
-  kept_clock why.Take reading p s = kept_received reading p.place p s
-  kept_clock why.Give reading p s = kept_answered reading p.place p s
-  kept_clock _ reading p s = s
+  kept_clock w reading p s = grind (arith, s)
+
+-- ---- what is owed
+-- this text is owed first
+abbrev pub Owes : List TvOut → ℕ → List ℕ → Type 0
+Owes owed peer text = owed ≡ out.Say peer text ∷ without_first owed
+
+-- no text is
+abbrev pub IsSilent : List TvOut → Type 0
+IsSilent (out.Say peer text ∷ owed) = ⊥
+IsSilent _ = ⊤
+
+-- what is owed where this is due
+abbrev pub Fits : List TvOut → Due → Type 0
+Fits owed (SendText peer text) = Owes owed peer text
+Fits owed (HangUp peer) = IsSilent owed
+Fits owed (Ends driven.Done) = owed ≡ []
+Fits owed (Ends ended) = ⊤
+Fits owed _ = owed ≡ []
+
+fits_hang_up : (live : List ℕ) → Fits [] (from_hang_ups live)
+fits_hang_up live = grind arith
+
+fits_text : (turns : Turns) (live peers : List ℕ) → Fits [] (from_texts turns live peers)
+fits_text turns live peers = grind arith
+
+fits_at : (run : TvRun) (live : List ℕ) (turns : Turns) (place : Place) → Fits [] (due_at run live turns place)
+fits_at run live turns (Asked last) = fits_text turns live (above last live)
+fits_at run live turns (Over last) = fits_hang_up (above (Some last) live)
+fits_at run live turns _ = grind arith
+
+fits_due : (carried : ℕ) (refused : Option TvFault) (owed : List TvOut) (rest : Due) → Fits [] rest
+    → Fits owed (unless_refused carried refused (unless_owed owed rest))
+fits_due carried refused owed rest fits = grind (arith, fits)
+
+pub fits : (run : TvRun) (p : Progress) → Fits p.owed (due_for run p)
+fits run p = fits_due p.carried p.refused p.owed _ (fits_at run _ p.turns p.place)
+
+-- what is owed where an entry comes
+abbrev pub Follows : List TvOut → Entry → Type 0
+Follows owed (Wrote peer text) = Owes owed peer text
+Follows owed (Gone peer) = (text : List ℕ) × Owes owed peer text
+Follows owed (HungUp peer) = IsSilent owed
+Follows owed _ = owed ≡ []
+
+abbrev pub Followed : TvRun → History → Type 0
+Followed run h = Each (λ entry older. Follows (progress_of run older).owed entry) h
+
+added : (run : TvRun) (older : History) → Followed run older → (d : Due) → Fits (progress_of run older).owed d
+    → (call : History) → MayAdd d call → Followed run (call ++ older)
+added run older each d fits call may = grind (arith, each, fits, may)
+
+pub followed : (run : TvRun) (h : History) → IsProper (due run) h → Followed run h
+followed run [] Empty = tt
+followed run h (More {older} call may proper) =
+    added run older (followed run older proper) (due run older) (fits run (progress_of run older)) call may
 
 -- ---- a call
 abbrev pub Good : TvRun → ℕ → History → Type 0
@@ -433,28 +364,6 @@ Good run peer h = let p = progress_of run h in
 module _ (run : TvRun) (older : History) (good : (other : ℕ) → Good run other older) (peer : ℕ) where
   abbrev before : Progress
   before = progress_of run older
-
-  -- how the session stands with this owed, where this was sent to it
-  abbrev With : List (List ℕ) → Bool → List TvEvent → List TvOut → Type 0
-  With sent gone events owed =
-      Stands (addresses_in run.config) peer sent gone (AreBelow peer older) events (news_of peer owed)
-
-  -- where nothing more was sent to it
-  abbrev Still : List TvEvent → List TvOut → Type 0
-  Still events owed = With (sent_to peer older) (is_gone peer older) events owed
-
-  abbrev Step : History → Type 0
-  Step call = AreNumbered (call ++ older) → Good run peer (call ++ older)
-
-  adds : {call entries : History} → call ≡ entries → Step entries → Step call
-  adds e step = subst Step (sym e) step
-
-  read_good : (w : Why) (c : Clocked) → Good run peer (clock_entries w c ++ older)
-  read_good w c = by c.slept (kept_clock _ peer _ _ _ w c.reading before (good peer)) where
-    by : (slept : Bool) → Good run peer (Clock w c.reading ∷ older)
-        → Good run peer (clock_entries w (record { reading = c.reading; slept = slept }) ++ older)
-    by false s = s
-    by true s = s
 
   event_good : (e : TvEvent) → IsFresh e (calls_of (addresses_in run.config) before.events).sessions
       → before.owed ≡ [] → (new : Type 0) → (new → AreBelow peer older × IsOther peer e)
@@ -467,121 +376,65 @@ module _ (run : TvRun) (older : History) (good : (other : ℕ) → Good run othe
   other_than : (p : ℕ) → (p < peer) × AreBelow peer older → AreBelow peer older × (eqb p peer ≡ false)
   other_than p below = (below.1, let lt = below.0 in grind (arith, nat_tests))
 
-  opening_good : (came : Option (ℕ × PeerKind)) → before.owed ≡ [] → Step (opening_entries came)
-  opening_good None none numbered = good peer
-  opening_good (Some (p, peer_kind.Wc)) none numbered = record {
+  -- what the session is owed, where a text is owed first
+  owing : (p : ℕ) (text : List ℕ) → Owes before.owed p text
+      → Telling (life_of peer (calls_of (addresses_in run.config) before.events).sessions) (sent_to peer older)
+      (is_gone peer older) (news_of peer (out.Say p text ∷ without_first before.owed))
+  owing p text owes =
+      subst (λ (os : List TvOut). Telling (life_of peer (calls_of (addresses_in run.config) before.events).sessions)
+      (sent_to peer older) (is_gone peer older) (news_of peer os)) owes (good peer).telling
+
+  -- a session is hung up, which tells it nothing
+  hung : (p : ℕ) (owed : List TvOut) → before.owed ≡ owed → IsSilent owed → let q = hung_up p owed before in
+      Stands (addresses_in run.config) peer (sent_to peer older) (is_gone peer older) (AreBelow peer older) q.events
+      (news_of peer q.owed)
+  hung p owed is silent = let was = good peer in grind (arith, is, silent, was)
+
+  entry_good : (entry : Entry) → Follows before.owed entry → AreNumbered (entry ∷ older)
+      → Good run peer (entry ∷ older)
+  entry_good (Clock w reading) none numbered = kept_clock _ peer _ _ _ w reading before (good peer)
+  entry_good (Accepted p peer_kind.Wc) none numbered = record {
     lawful = (good peer).lawful;
     telling = (good peer).telling;
     unused = λ below. (good peer).unused below.1;
   }
-  opening_good (Some (p, peer_kind.Cii)) none numbered =
+  entry_good (Accepted p peer_kind.Cii) none numbered =
       event_good (event.Opened p kind.Cii) ((good p).unused numbered.0) none _ (other_than p)
-  opening_good (Some (p, peer_kind.Ts)) none numbered =
+  entry_good (Accepted p peer_kind.Ts) none numbered =
       event_good (event.Opened p kind.Ts) ((good p).unused numbered.0) none _ (other_than p)
-
-  datagram_good : (room : List ℕ) (came : Option (ℕ × ℕ)) → Good run peer (datagram_entries room came ++ older)
-  datagram_good room None = good peer
-  datagram_good room (Some (p, count)) = good peer
-
-  heard_good : (p : ℕ) (h : SessionHeard) → before.owed ≡ [] → Good run peer (heard_entries p h ++ older)
-  heard_good p heard.Quiet none = good peer
-  heard_good p (heard.Text text) none = event_good (event.Heard p text) tt none _ (λ below. (below, tt))
-  heard_good p heard.Closed none = event_good (event.Closed p) tt none _ (λ below. (below, tt))
-
-  -- a text that is owed first is sent, or told as gone
-  wrote_good : (p : ℕ) (text : List ℕ) (os : List TvOut) (o : Outgoing) → before.owed ≡ out.Say p text ∷ os
-      → Good run peer (wrote_entries p text o ++ older)
-  wrote_good p text os outgoing.Sent owes =
-      let s = subst (Still before.events) owes (good peer) in
-      let now = sent_to peer (Wrote p text ∷ older) in
-      kept_settled _ peer now (is_gone peer older) _ (one_done before)
-      (subst (With now (is_gone peer older) before.events) (sym (ap without_first owes)) (record {
-        lawful = s.lawful;
-        telling = text_sent _ _ (eqb p peer) s.telling;
-        unused = s.unused;
-      }))
-  wrote_good p text os outgoing.Gone owes =
+  entry_good (Heard p text) none numbered = event_good (event.Heard p text) tt none _ (λ below. (below, tt))
+  entry_good (ClosedEntry p) none numbered = event_good (event.Closed p) tt none _ (λ below. (below, tt))
+  entry_good (Wrote p text) owes numbered =
+      kept_settled _ peer (sent_to peer (Wrote p text ∷ older)) (is_gone peer older) _ (one_done before) (record {
+        lawful = (good peer).lawful;
+        telling = text_sent _ _ (eqb p peer) (owing p text owes);
+        unused = (good peer).unused;
+      })
+  entry_good (Gone p) owes numbered =
       let a = addresses_in run.config in
-      let s = subst (Still before.events) owes (good peer) in
-      let now = is_gone peer (Gone p ∷ older) in
-      kept_settled a peer (sent_to peer older) now _ (happened a (event.Closed p) (one_done before))
-      (subst (With (sent_to peer older) now (event.Closed p ∷ before.events))
-      (sym (ap (λ xs. without_first xs ++ []) owes ∙ append-nil os)) (record {
-        lawful = (s.lawful, tt);
-        telling = text_gone _ _ (eqb p peer) s.telling;
-        unused = λ below. event_keeps a (event.Closed p) before.events peer none_over tt (λ none. tt) (s.unused below);
+      kept_settled a peer (sent_to peer older) (is_gone peer (Gone p ∷ older)) _
+      (happened a (event.Closed p) (one_done before))
+      (subst (λ (os : List TvOut). Stands a peer (sent_to peer older) (is_gone peer (Gone p ∷ older))
+      (AreBelow peer older) (event.Closed p ∷ before.events) (news_of peer os))
+      (sym (append-nil (without_first before.owed))) (record {
+        lawful = ((good peer).lawful, tt);
+        telling = text_gone _ _ (eqb p peer) (owing p owes.0 owes.1);
+        unused = λ below. event_keeps a (event.Closed p) before.events peer {life = None} tt tt (λ none. tt)
+            ((good peer).unused below);
       }))
-
-  -- a session is hung up, which tells it nothing
-  hung_good : (p : ℕ) (owed : List TvOut) → before.owed ≡ owed
-      → (let q = hung_up p owed before in Still q.events q.owed) → Good run peer (HungUp p ∷ older)
-  hung_good p owed is s =
-      kept_settled _ peer _ _ _ (hung_up p before.owed before)
-      (subst (λ (xs : List TvOut). let q = hung_up p xs before in Still q.events q.owed) (sym is) s)
-
-  -- ---- what is due where nothing is owed
-  module _ (none : before.owed ≡ []) (call : History) where
-    hanging_good : (live : List ℕ) → MayAdd (from_hang_ups live) call → Step call
-    hanging_good [] may = absurd may
-    hanging_good (p ∷ live) may = adds may (λ numbered. hung_good p [] none (good peer))
-
-    ending_good : (on : Bool) (live : List ℕ) → MayAdd (cond on (Now why.Turn) (from_hang_ups live)) call → Step call
-    ending_good true live may = adds may.1 (λ numbered. read_good why.Turn may.0)
-    ending_good false live may = hanging_good live may
-
-    turn_good : (over : Bool) (live : List ℕ) → MayAdd (cond over (from_hang_ups live) TakeDatagram) call → Step call
-    turn_good true live may = hanging_good live may
-    turn_good false live may = adds may.2 (λ numbered. datagram_good may.0 may.1)
-
-    asking_good : (turns : Turns) (live peers : List ℕ) → MayAdd (from_texts turns live peers) call → Step call
-    asking_good turns live [] may = ending_good (goes_on turns) live may
-    asking_good turns live (p ∷ peers) may = adds may.1 (λ numbered. heard_good p may.0 none)
-
-    place_good : (live : List ℕ) (turns : Turns) (place : Place) → MayAdd (due_at run live turns place) call → Step call
-    place_good live turns Begins may = adds may (λ numbered. good peer)
-    place_good live turns Listens may = ending_good (goes_on turns) live may
-    place_good live turns (Turned reading) may = turn_good (is_over turns) live may
-    place_good live turns (Taken p bytes) may = adds may.1 (λ numbered. read_good why.Take may.0)
-    place_good live turns (Received p ticket) may = adds may.1 (λ numbered. read_good why.Give may.0)
-    place_good live turns (Answers p []) may = adds may.1 (opening_good may.0 none)
-    place_good live turns (Answers p (datagram ∷ datagrams)) may = adds may (λ numbered. good peer)
-    place_good live turns Served may = adds may.1 (opening_good may.0 none)
-    place_good live turns (Asked last) may = asking_good turns live (above last live) may
-    place_good live turns (Over last) may = hanging_good (above (Some last) live) may
-
-  -- a call that is due
-  due_good : (call : History) (r : Option TvFault) (owed : List TvOut) → before.owed ≡ owed
-      → MayAdd (unless_refused before.carried r (unless_owed owed
-      (due_at run (open_after (addresses_in run.config) before.events) before.turns before.place))) call
-      → Step call
-  due_good call (Some (fault.Player f)) owed owes may = absurd may
-  due_good call (Some fault.Memory) owed owes may = absurd may
-  due_good call None (out.Say p text ∷ os) owes may = adds may.1 (λ numbered. wrote_good p text os may.0 owes)
-  due_good call None (out.HangUp p ∷ os) owes may =
-      adds may (λ numbered. hung_good p (out.HangUp p ∷ os) owes (subst (Still before.events) owes (good peer)))
-  due_good call None [] owes may = place_good owes call _ before.turns before.place may
+  entry_good (HungUp p) silent numbered =
+      kept_settled _ peer _ _ _ (hung_up p before.owed before) (hung p before.owed refl silent)
+  entry_good _ none numbered = good peer
 
 -- ---- the run
-pub numbered_rest : (call older : History) → AreNumbered (call ++ older) → AreNumbered older
-numbered_rest [] older n = n
-numbered_rest (Accepted peer k ∷ call) older n = numbered_rest call older n.1
-numbered_rest (_ ∷ call) older n = numbered_rest call older n
+pub numbered_rest : (entry : Entry) (older : History) → AreNumbered (entry ∷ older) → AreNumbered older
+numbered_rest entry older numbered = grind (arith, numbered)
 
-pub all_good : (run : TvRun) (h : History) → IsProper (due run) h → AreNumbered h → (peer : ℕ) → Good run peer h
-all_good run [] Empty numbered peer = record { lawful = (tt, tt); telling = Whole refl; unused = λ below. refl }
-all_good run h (More {older} call may proper) numbered peer =
-    let p = progress_of run older in
-    due_good run older (all_good run older proper (numbered_rest call older numbered)) peer call p.refused p.owed refl
-    may numbered
-
--- where the end is due nothing is owed
-ended_owes : (r : Option TvFault) (owed : List TvOut) (carried : ℕ) (rest : Due)
-    → unless_refused carried r (unless_owed owed rest) ≡ Ends driven.Done → owed ≡ []
-ended_owes None [] carried rest e = refl
-ended_owes None (out.Say peer text ∷ owed) carried rest e = absurd (cc)
-ended_owes None (out.HangUp peer ∷ owed) carried rest e = absurd (cc)
-ended_owes (Some (fault.Player f)) owed carried rest e = absurd (cc)
-ended_owes (Some fault.Memory) owed carried rest e = absurd (cc)
+pub all_good : (run : TvRun) (h : History) → Followed run h → AreNumbered h → (peer : ℕ) → Good run peer h
+all_good run [] each numbered peer = record { lawful = (tt, tt); telling = Whole refl; unused = λ below. refl }
+all_good run (entry ∷ older) each numbered peer =
+    entry_good run older (all_good run older each.1 (numbered_rest entry older numbered)) peer entry each.0
+    numbered
 
 -- what is unsent
 unsent_of : {life : Option Lived} {sent : List (List ℕ)} {gone : Bool} {news : List (List ℕ)}
@@ -593,11 +446,11 @@ unsent_of (Lost text e l over) = (text ∷ [], e, λ none. omega arith)
 
 pub sessions_are_told : SessionsAreTold
 sessions_are_told run h proper numbered peer =
-    let u = unsent_of (all_good run h proper numbered peer).telling in
+    let u = unsent_of (all_good run h (followed run h proper) numbered peer).telling in
     let p = progress_of run h in
     record {
       unsent = u.0;
       first = u.1;
       whole = λ none. u.2 (ap (news_of peer) none);
-      done = λ e. u.2 (ap (news_of peer) (ended_owes p.refused p.owed p.carried _ e));
+      done = λ e. u.2 (ap (news_of peer) (subst (λ (d : Due). Fits p.owed d) e (fits run p)));
     }

@@ -1,5 +1,5 @@
 //! What a turn of a companion asks and hears, and the end of its sessions.
-ghost use Rattle.std.specs.Prelude.{◌≡◌, ◌≤◌, ◌∷◌, ◌⊎◌, ℕ, None, Some, OnOk, IfErr, MatchResult, true};
+ghost use Rattle.std.specs.Prelude.{◌≡◌, ◌≤◌, ◌∷◌, ◌⊎◌, ℕ, None, Some, OnOk, IfOk, IfErr, MatchResult, true};
 ghost use Rattle.css_model.specs.History.{History, Closed, Took};
 ghost use Rattle.css_model.specs.declared.Why.TheVariants as whys;
 ghost use Rattle.css_companion.specs.Meanings.{kind_of};
@@ -25,26 +25,27 @@ use css_companion::{Binding, Companion, CompanionEvent};
 use css_num::Text;
 use css_outside::{Heard, Outside, Why};
 
-/// Takes a text of a session in.
+/// Takes a text of a session in, and tells that one came.
 fn take_in(
     companion: &mut Companion,
     binding: Binding,
     session: Session,
     text: Text,
-) -> Result<(), Driven>
+) -> Result<bool, Driven>
     ensures told { (own : CompanionConfig) → (peer : ℕ) → (history : History)
         → kind_of peer history ≡ Some (kind_for session) → KnowsUnder binding own companion.old history
         → TakesIn binding own session peer text history companion.new result }
+    ensures came { IfOk result (λ came. came ≡ true) }
     ensures early { IfErr result IsEarly }
     ensures same { companion.new.client ≡ companion.old.client }
 {
     match session {
         Session::Cii => match companion.step_under(binding, CompanionEvent::CiiText(text)) {
-            Ok(_) => Ok(()),
+            Ok(_) => Ok(true),
             Err(fault) => Err(refused(fault)),
         },
         Session::Ts => match companion.step_under(binding, CompanionEvent::TsText(text)) {
-            Ok(_) => Ok(()),
+            Ok(_) => Ok(true),
             Err(_) => Err(Driven::Memory),
         },
     }
@@ -177,8 +178,7 @@ impl<O: Outside, W: Observes> Run<'_, O, W> {
             Heard::Quiet => Ok(false),
             Heard::Text(text) => {
                 self.observer.heard(session, &text, self.companion);
-                take_in(self.companion, binding, session, text)?;
-                Ok(true)
+                take_in(self.companion, binding, session, text)
             }
             Heard::Closed => {
                 self.observer.closed(session);

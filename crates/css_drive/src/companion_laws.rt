@@ -2,11 +2,13 @@
 ghost use Rattle.css_drive.specs.CompanionLaws.{ReportsAreAsAsked, FollowersHear, SameEventsAreReportedAlike};
 
 /// A run never makes more reports than it is asked for, and it ends as `Done` with exactly as many.
+#[tactic(auto, using(crate::proofs::CompanionLaws::reports_as_asked))]
 pub fn reports_are_as_asked()
     ensures { ReportsAreAsAsked }
 {}
 
 /// Each follower of a run hears all of its reports in turn until it is done, and speaks one text for each.
+#[tactic(auto, using(crate::proofs::CompanionLaws::followers_hear))]
 pub fn followers_hear_the_run()
     ensures { FollowersHear }
 {}

@@ -11,7 +11,6 @@ use Rattle.css_model.specs.History.{Address, Closed, Dialled, Heard, History, Qu
 use Rattle.css_model.specs.Wire.{encoded, request_at}
 use Rattle.css_address.specs.declared.fault.AddressFault.{AddressFault}
 use Rattle.css_cii.specs.declared.name.CiiName.TheVariants.{WcUrl}
-use Rattle.css_cii.specs.declared.state.State.{State}
 use Rattle.css_companion.specs.Meanings.{kind_of, is_ts, opens_ts}
 use Rattle.css_companion.specs.Standing.{Companion}
 use Rattle.css_companion.specs.declared.binding.Binding.TheVariants.{WallClock}
@@ -20,7 +19,7 @@ use Rattle.css_outside.specs.declared.calls.Clocked.{Clocked}
 use Rattle.css_outside.specs.declared.calls.Heard.{Heard as Answer}
 use Rattle.css_outside.specs.declared.calls.Heard.TheVariants as answer
 use Rattle.css_relay.specs.Lending.{with_companion}
-use Rattle.css_relay.specs.Relays.{relayed_state, state_of}
+use Rattle.css_relay.specs.Relays.{relayed_state}
 use Rattle.css_drive.specs.CompanionDue.{dial_first, dial_to, place, send_to}
 use Rattle.css_drive.specs.CompanionStanding as companions
 use Rattle.css_drive.specs.CompanionStanding.{Shown, GivesPlace, IsRefusal, dial_entries, still}
@@ -86,10 +85,7 @@ module _ (live : Live) {plan : Plan} {start now : Shown} {history : History} {sp
     where
       by : (k : Kind) (tried : Result ℕ Failure) → ◌≡◌ {A = Progress} (steps.called k tried (facts_in live))
           (stood (record live { own = with_dial k tried live.own }) (Called k))
-      by k (Err failure) = refl
-      by kind.Cii (Ok q) = refl
-      by kind.Wc (Ok q) = refl
-      by kind.Ts (Ok q) = refl
+      by k tried = grind arith
 
   -- nothing was called
   same : (to : Facts → History → Due) {new : At} → new ≡ now_at now live
@@ -140,11 +136,7 @@ module _ (live : Live) {plan : Plan} {start now : Shown} {history : History} {sp
       due : (known : Option ℕ) (told : Option (Result Address AddressFault)) → live.own.wc ≡ known
           → place kind.Wc live.relay.companion.state.wc_url ≡ told
           → due_at plan (facts_in live) history spot ≡ dial_to known kind.Wc WcUrl told rest
-      due known told e t =
-          is ∙ ap (λ o. dial_to o kind.Wc WcUrl (place kind.Wc (state_of history).wc_url) rest) e
-          ∙ ap (λ (x : State). dial_to known kind.Wc WcUrl (place kind.Wc x.wc_url) rest)
-          (sym s.knows.companion.stands.state)
-          ∙ ap (λ x. dial_to known kind.Wc WcUrl x rest) t
+      due known told e t = let state = s.knows.companion.stands.state in grind (arith, is, e, t, state)
 
       by : (known : Option ℕ) (told : Option (Result Address AddressFault))
           → due_at plan (facts_in live) history spot ≡ dial_to known kind.Wc WcUrl told rest
@@ -247,12 +239,6 @@ goes_calls live s new (Err ended) (inr (inr (a, b, cii, wc, asks))) =
     goes_ask (with_at live b) y.2 _ _ refl refl y.3 new (Err ended) asks
 
 -- ---- the television's session
-still_open : (was is : Option ℕ) → is ≡ was → true ≡ (is_some was && not (is_some is)) → ⊥
-still_open was is same e = grind (arith, same, e)
-
-is_shut : (was is : Option ℕ) → is_some was ≡ true → is ≡ None → false ≡ (is_some was && not (is_some is)) → ⊥
-is_shut was is some none e = grind (arith, some, none, e)
-
 module _ (live : Live) {plan : Plan} {start now : Shown} {history : History}
     (s : Stands plan start now live.relay (stood live (welcomed (facts_in live))) history) (new : At) where
   -- nothing came, and the session is as it was
@@ -277,10 +263,7 @@ module _ (live : Live) {plan : Plan} {start now : Shown} {history : History}
       → closed ≡ (is_some live.own.cii_open && not (is_some new.live.cii_open))
       → IsAt (goes_on_at (λ f. Asked f.peers) (not closed)) plan start new.shown
       (cut_if closed (parting.Closed session.Cii) (with_at live new))
-  closed_if (inl quiet) true e = absurd (still_open live.own.cii_open new.live.cii_open quiet.1 e)
-  closed_if (inl quiet) false e = quiet.0
-  closed_if (inr closed) true e = closed.0
-  closed_if (inr closed) false e = absurd (is_shut live.own.cii_open new.live.cii_open closed.1 closed.2 e)
+  closed_if found closed e = grind (arith, found, e)
 
   module _ (p : ℕ) (e : live.own.cii_open ≡ Some p) where
     asked : Stands plan start now live.relay (stood live (Welcomed p)) history
@@ -353,8 +336,7 @@ module _ (live : Live) {plan : Plan} {start now : Shown} {history : History}
     )
 
     memory : (ended : Driven) → IsRefusal None ended → ended ≡ driven.Memory
-    memory driven.Memory r = refl
-    memory _ r = absurd r
+    memory ended r = grind (arith, r)
 
     refused : (said : Answer) (ended : Driven) → companions.Adds now new.shown (heard_entries p said)
         → new.live ≡ with_answer p said live.own

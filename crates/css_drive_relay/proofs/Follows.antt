@@ -1,6 +1,6 @@
 -- What each entry of a relay's run says of the place that it leaves, and to which places entries lead. So a run that is
 -- done made all its turns.
-use Rattle.std.proofs.Common.{◌≡◌, ℕ, Bool, true, false, List, [], ◌∷◌, ◌++◌, Option, Some, None, refl, arith, ◌+◌, ap₂}
+use Rattle.std.proofs.Common.{◌≡◌, ℕ, Bool, true, false, List, [], ◌∷◌, ◌++◌, Option, None, refl, arith, ◌+◌}
 use Rattle.std.specs.Prelude.{◌||◌, is_some, ⊤, Ok}
 use Rattle.std.specs.Option.{option_or}
 use Rattle.std.proofs.lemmas.Bool.Decides.{nat_tests}
@@ -204,9 +204,7 @@ module _ (plan : Plan) (older : History) (t : Good plan older) where
 
 all_good : (plan : Plan) (h : History) → Followed plan h → Good plan h
 all_good plan [] each = record {
-  turns =
-      ap₂ {A = ℕ} {B = Option ℕ} {C = Turns} (λ n first. (n, first, plan.begun.turn)) (omega arith)
-      (elim plan.begun.first as (λ o. o ≡ option_or o None) [ None ↦ refl | Some first ↦ refl ]);
+  turns = grind arith;
   dialled = refl;
 }
 all_good plan (entry ∷ older) each = after plan older (all_good plan older each.1) entry each.0

@@ -1,12 +1,10 @@
 -- What a relay's run makes of a datagram that lands.
-use Rattle.std.proofs.Common.{◌≡◌, ◌∙◌, ap, sym, subst, refl, ℕ, List, [], ◌∷◌, ◌++◌, Bool, true, false, cond, Result}
-use Rattle.std.proofs.Common.{Ok, Err, inl}
-use Rattle.std.specs.Prelude.{◌==◌, is_some, not}
+use Rattle.std.proofs.Common.{arith, ◌≡◌, ◌∙◌, ap, sym, subst, refl, ℕ, List, [], ◌∷◌, ◌++◌, Bool, true, false, inl}
+use Rattle.std.specs.Prelude.{is_some, not}
 use Rattle.css_agree.specs.Disagreements.{contradicts}
 use Rattle.css_agree.specs.Keeping.{Kept}
 use Rattle.css_client.proofs.Judging as judging
-use Rattle.css_client.specs.Landings.{awaited_if, judged_by, judged_of}
-use Rattle.css_client.specs.declared.landing.Landing.TheVariants as landings
+use Rattle.css_client.specs.Landings.{judged_of}
 use Rattle.css_companion.specs.Standing.{own_of}
 use Rattle.css_drive.proofs.CompanionSteps.{knows_plain, lawful_plain}
 use Rattle.css_drive.specs.CompanionStanding.{Shown}
@@ -20,12 +18,9 @@ use Rattle.css_drive_relay.specs.Standing.{stood}
 use Rattle.css_drive_relay.specs.declared.live.Live.{Live}
 use Rattle.css_drive_relay.specs.declared.plan.Plan.{Plan}
 use Rattle.css_drive_relay.proofs.Steps as steps
-use Rattle.css_model.specs.History.{Clock, History, Slept, Took, accepted_answers, is_asked, request_in}
+use Rattle.css_model.specs.History.{Clock, History, Slept, Took, accepted_answers, request_in}
 use Rattle.css_model.specs.WallClock.{Local}
-use Rattle.css_model.specs.declared.Message.{Message}
-use Rattle.css_model.specs.declared.WcFault.{WcFault}
 use Rattle.css_model.specs.declared.Why.TheVariants as why
-use Rattle.css_model.specs.Wire.{decoded}
 use Rattle.css_outside.specs.Outsides.{sleep_entries}
 use Rattle.css_outside.specs.declared.calls.Clocked.{Clocked}
 use Rattle.css_relay.specs.Agreeing.{Agrees, Compares, IsAgreementOf}
@@ -35,14 +30,7 @@ use Rattle.css_span.specs.Frontiers.{Answers}
 -- after a sleep nothing is asked any more, so nothing contradicts
 nothing_asked : (own : Local) (h : History) (reading : ℕ) (bytes : List ℕ) (answers : Answers)
     → contradicts own reading (judged_of own (Slept ∷ h) reading bytes) answers ≡ false
-nothing_asked own h reading bytes answers = by (decoded bytes)
-  where
-    by : (read : Result Message WcFault) → contradicts own reading (judged_by own (Slept ∷ h) reading
-        (awaited_if (λ originate. is_asked originate (Slept ∷ h)) read)) answers ≡ false
-    by (Err fault) = refl
-    by (Ok message) =
-        elim (message.message_type == 0) as (λ b. contradicts own reading (judged_by own (Slept ∷ h) reading
-        (cond b (Err landings.NotAnAnswer) (Err landings.Unasked))) answers ≡ false) [ true ↦ refl | false ↦ refl ]
+nothing_asked own h reading bytes answers = grind arith
 
 module _ {plan : Plan} {start now mid : Shown} {live later : Live} {history : History} {peer : ℕ} {bytes : List ℕ}
     {clocked : Clocked} (s : Stands plan start now live.relay (stood live (Taken peer bytes))

@@ -5,7 +5,6 @@ use Rattle.std.specs.Prelude.{◌⊎◌, is_some, MatchResult}
 use Rattle.std.specs.Option.{option_to_list}
 use Rattle.std.specs.Result.{IsErrAnd}
 use Rattle.css_model.specs.History.{History, HungUp, Listening}
-use Rattle.css_outside.specs.Faults.{HasRisen}
 use Rattle.css_outside.specs.Outsides.{Counts, with_entries}
 use Rattle.css_drive.proofs.CompanionEnds.{no_entries}
 use Rattle.css_drive.proofs.CompanionSteps.{told_more}
@@ -114,12 +113,10 @@ counts_none : (before now : ℕ) (ended : Driven) → (IsFault ended → ⊥) �
 counts_none before now ended not_fault e = grind (arith, not_fault, e)
 
 some_words : (words : Option (List ℕ)) → is_some words ≡ true → (said : List ℕ) × (words ≡ Some said)
-some_words (Some words) e = (words, refl)
-some_words None e = absurd (cc)
+some_words words e = grind (arith, e)
 
 no_words : (words : Option (List ℕ)) → is_some words ≡ false → words ≡ None
-no_words None e = refl
-no_words (Some words) e = absurd (cc)
+no_words words e = grind (arith, e)
 
 -- a run that no other one follows ended as a relay does
 last_kind : (ended : Driven) (cause : Option Parting) → IsStop ended → why ended cause ≡ None → IsRelayEnd ended
@@ -148,12 +145,7 @@ module _ {plan : Plan} {start now : Shown} {live : Live} {ended : Driven} (x : S
   module _ (not_fault : IsFault ended → ⊥) where
     -- what the variables say is what the calls say
     facts : facts_in live ≡ (progress_of plan x.history).facts
-    facts = by x.known
-      where
-        by : IsFault ended ⊎ (facts_in live ≡ (progress_of plan x.history).facts)
-            → facts_in live ≡ (progress_of plan x.history).facts
-        by (inl fault) = absurd (not_fault fault)
-        by (inr e) = e
+    facts = let known = x.known in grind (arith, not_fault, known)
 
     -- a hang-up failed
     pub unhung : {next : Shown} {fault : Driven} → Hangs now next (hang_ups (facts_in live)) (Err fault)
@@ -207,13 +199,6 @@ module _ {plan : Plan} {start now : Shown} {live : Live} {ended : Driven} (x : S
             faults = counts_none _ _ ended not_fault faults_same;
             kind = last_kind ended _ x.kind no;
           }
-
--- ---- dials
--- what was tried in the turns goes over to the next visit
-tried_next : (plan : Plan) (before now later : Counts) (live : Live) (ended : Driven) (next : Begun)
-    → later.dial_faults ≡ now.dial_faults → next ≡ begun_by plan (facts_in live) → (IsFault ended → ⊥)
-    → IsFault ended ⊎ HasTried plan before now live.own → HasTriedBy before later next
-tried_next plan before now later live ended next same e not_fault tried = grind (arith, same, e, not_fault, tried)
 
 -- ---- all visits
 pub so_far_first : (run : RelayRun) (begun : Begun) (start : Shown) → begun ≡ nothing_begun
@@ -285,16 +270,8 @@ pub tries : (plan : Plan) (before now later : Counts) (live : Live) (ended : Dri
     → ((turns : ℕ) → ended ≡ driven.Unreachable turns
     → (1 ≤ live.own.made) × (plan.begun.reached ≡ false) × (live.own.cii ≡ None))
     → CountsTries before later result
-tries plan before now later live ended (visited.Next next) same begins ends tried unreached =
-    tried_next plan before now later live ended next same begins ends tried
-tries plan before now later live ended (visited.Over (driven.Unreachable turns)) same begins ends
-    (inl fault) unreached =
-    absurd (subst IsFault ends fault)
-tries plan before now later live ended (visited.Over (driven.Unreachable turns)) same begins ends
-    (inr tried) unreached =
-    let x = unreached turns ends in
-    subst (λ (n : ℕ). HasRisen before.dial_faults n) (sym same) (tried x.0 x.1 x.2)
-tries plan before now later live ended (visited.Over last) same begins ends tried unreached = tt
+tries plan before now later live ended result same begins ends tried unreached =
+    grind (arith, same, begins, ends, tried, unreached)
 
 pub tries_first : (plan : Plan) (before now : Counts) (live : Live) → live.own.made ≡ plan.begun.turns
     → HasTriedBy before now plan.begun → HasTried plan before now live.own

@@ -6,7 +6,7 @@ use Rattle.css_drive_relay.specs.Places.{at, Facts, Progress, next_asked, tellin
 use Rattle.css_drive_relay.specs.Places.{Called, after_dial, after_clock, Asked, beginning, with_turn, Taken, Received}
 use Rattle.css_drive_relay.specs.Places.{Served, received, answering, Welcomed, welcomed, published, television_told}
 use Rattle.css_drive_relay.specs.Places.{is_kept, opened_if, refusal_of}
-use Rattle.std.specs.Prelude.{not, is_some, ◌⊎◌, unwrap_or, MatchResult, ◌&&◌, IfSome, length}
+use Rattle.std.specs.Prelude.{is_some, ◌⊎◌, unwrap_or, MatchResult, IfSome, length}
 use Rattle.std.proofs.lemmas.Bool.Decides.{nat_tests}
 use Rattle.css_model.specs.declared.Kind.{Kind}
 use Rattle.css_model.specs.declared.Failure.{Failure}
@@ -14,8 +14,8 @@ use Rattle.css_model.specs.History.{Dialled, Accepted, History, Entry, Slept, Cl
 use Rattle.css_model.specs.History.{Closed, Gone, Heard, Sent, request_in, NoneCame, accepted_answers, asking_at}
 use Rattle.css_model.specs.History.{is_sleep, landed_answer, request_by, Took}
 use Rattle.css_companion.specs.Meanings.{kind_of, opens_ts, is_ts, cii_text, closes_ts, ts_text}
-use Rattle.css_drive_relay.specs.Standing.{AreInOrder, Knows, Runs, Stops, HasRead, facts_in, stood, Stands}
-use Rattle.css_drive_relay.specs.Standing.{IsAt, IsStop, Stays, visiting}
+use Rattle.css_drive_relay.specs.Standing.{AreInOrder, Knows, Runs, Stops, HasRead, facts_in, stood, Stands, IsAt}
+use Rattle.css_drive_relay.specs.Standing.{IsStop, Stays, visiting}
 use Rattle.css_model.specs.declared.Why.{Why}
 use Rattle.css_model.specs.Explains.{IsLawful}
 use Rattle.css_outside.specs.Outsides.{Counts, with_entries, clock_entries, sleep_entries}
@@ -23,14 +23,13 @@ use Rattle.css_outside.specs.declared.calls.Clocked.{Clocked}
 use Rattle.css_agree.specs.Keeping.{Kept}
 use Rattle.css_relay.specs.Agreeing.{Agrees, IsAgreementOf}
 use Rattle.css_relay.specs.Lending.{with_companion}
-use Rattle.css_relay.specs.Relays.{Relay, StandsFor, relayed_state, state_of}
+use Rattle.css_relay.specs.Relays.{Relay, StandsFor, relayed_state}
 use Rattle.css_drive.specs.CompanionStanding as companions
 use Rattle.css_drive.specs.CompanionStanding.{Shown, Adds, Fails, asked_after, HasDialled, dial_entries, IsFault}
 use Rattle.css_drive.specs.CompanionStanding.{IsRefusal}
 use Rattle.css_drive.specs.Ends.{MayEnd, CountsNetFault}
 use Rattle.css_drive.specs.Proper.{Due, Now, MayAdd, More, Dial, Ends, Empty, TakeDatagram}
 use Rattle.css_drive.specs.declared.driven.Driven.{Driven}
-use Rattle.css_drive.specs.declared.parting.Parting.{Parting}
 use Rattle.css_drive.proofs.CompanionSteps.{told_more, counts_same, fault_ends, own_quiet, IsOwn, knows_plain}
 use Rattle.css_drive.proofs.CompanionSteps.{knows_tried, lawful_plain, refusal_own}
 use Rattle.css_drive_relay.specs.Due.{due_at, due_for, final, from_taken, is_left}
@@ -43,7 +42,6 @@ use Rattle.css_drive.specs.CompanionTurns.{goes_on, is_late}
 use Rattle.css_drive.proofs.CompanionEnds.{never_late, no_entries}
 use Rattle.css_outside.specs.Limits.{IsLimit, most_turns}
 use Rattle.css_outside.specs.declared.limit.Limit.{Limit}
-use Rattle.css_outside.specs.declared.limit.Limit.TheVariants.{Turns, Seconds}
 use Rattle.css_model.specs.WallClock.{Local}
 use Rattle.css_companion.specs.Standing.{Companion, own_of}
 use Rattle.css_companion.specs.declared.binding.Binding.TheVariants.{WallClock}
@@ -243,25 +241,12 @@ module _ {plan : Plan} {start now next : Shown} {live later : Live} {place : Pla
       → after_clock plan w clocked.reading (sleep_entries clocked.slept ++ history) (stood later place) ≡ q
       → Runs plan start next q (clock_entries w clocked ++ history)
   runs_read s is-due r q goes =
+      let was = s.progress in
+      let facts = read_facts r in
+      let ordered = s.ordered in
+      let peers = r.read.peers in
       runs_more s (clock_entries w clocked) (may_as is-due (clock_entries w clocked) (clocked, refl)) r.read.told
-      r.read.faults q
-      (by clocked.slept ∙ ap (λ (f : Facts). after_clock plan w clocked.reading (sleep_entries clocked.slept ++ history)
-      (record { facts = f; place = place })) (sym (read_facts r)) ∙ goes)
-      (elim clocked.slept as (λ slept. AreInOrder (next.counts.peers + 1) (entries slept))
-      [ true ↦ in_order | false ↦ in_order ])
-    where
-      entries : Bool → History
-      entries slept = clock_entries w (record { reading = clocked.reading; slept = slept }) ++ history
-
-      by : (slept : Bool) → progress_of plan (entries slept)
-          ≡ after_clock plan w clocked.reading (sleep_entries slept ++ history)
-          (record { facts = record (facts_in live) { asked = asked_after slept live.own.asked }; place = place })
-      by true = ap (λ (x : Progress). after_clock plan w clocked.reading (Slept ∷ history)
-          (record { facts = record x.facts { asked = None }; place = x.place })) s.progress
-      by false = ap (after_clock plan w clocked.reading history) s.progress
-
-      in_order : AreInOrder (next.counts.peers + 1) history
-      in_order = subst (λ (n : ℕ). AreInOrder (n + 1) history) (sym r.read.peers) s.ordered
+      r.read.faults q (grind (arith, was, facts, goes)) (grind (arith, ordered, peers))
 
   -- and neither for a request nor for a landing
   pub stands_read : Stands plan start now live.relay (stood live place) history
@@ -364,8 +349,7 @@ begins plan now live k e = stands_with (λ f. Asked []) e (record { runs = at_fi
 
 -- ---- turns
 some_turns : (limit : Limit) → IsLimit limit → 1 ≤ most_turns limit
-some_turns (Turns turns) range = range.0
-some_turns (Seconds seconds) range = omega arith
+some_turns limit range = grind (arith, range)
 
 -- the turns are over only once one was begun
 pub was_begun : (limit : Limit) → IsLimit limit → (first this : Option ℕ) (made : ℕ)
@@ -377,11 +361,9 @@ was_begun limit range None this made some over =
 -- a visit that was cut short began one
 pub some_made : (plan : Plan) (f : Facts) → IfSome f.first (λ x. 1 ≤ f.turns) → (f.parting ≡ None) ⊎ (1 ≤ f.turns)
     → is_left plan f ≡ false → 1 ≤ f.turns
-some_made plan f begun (inr some) none = some
-some_made plan f begun (inl whole) none =
-    was_begun plan.run.limit plan.run.limit_range f.first f.turn f.turns begun
-    (subst (λ (o : Option Parting). (not (is_some o) && goes_on plan.run.limit f.first f.turn f.turns) ≡ false) whole
-    none)
+some_made plan f begun made none =
+    let least = was_begun plan.run.limit plan.run.limit_range f.first f.turn f.turns begun in
+    grind (arith, made, none, least)
 
 -- no turn is left, so the run ends
 pub over : {plan : Plan} {start now : Shown} {live : Live} {history : History}
@@ -396,14 +378,7 @@ over {plan} {start} {now} {live} s none ended e =
 -- an unreachable one reached nobody
 pub unreached : (plan : Plan) (f : Facts) (turns : ℕ) → driven.Unreachable turns ≡ final plan f
     → (plan.begun.reached ≡ false) × (f.cii ≡ None)
-unreached plan f turns e = by plan.begun.reached f.cii refl refl e
-  where
-    by : (b : Bool) (o : Option ℕ) → plan.begun.reached ≡ b → f.cii ≡ o
-        → driven.Unreachable turns ≡ cond (b || is_some o) driven.Done (driven.Unreachable f.turns)
-        → (plan.begun.reached ≡ false) × (f.cii ≡ None)
-    by false None r c e = (r, c)
-    by true o r c e = absurd (cc)
-    by false (Some peer) r c e = absurd (cc)
+unreached plan f turns e = grind (arith, e)
 
 -- the first turn isn't the last by its time
 pub was_second : (limit : Limit) → IsLimit limit → (first : Option ℕ) (made reading : ℕ)
@@ -517,14 +492,7 @@ module _ (live : Live) {plan : Plan} {start now : Shown} {history : History} {re
         facts = record (facts_in live) { state = found };
         place = telling_if change (record (facts_in live) { state = found });
       }) history
-  publishes {state} {found} s e change is =
-      let at : Option (List ℕ) → State → Progress = λ o x. record {
-        facts = record (facts_in live) { state = x };
-        place = telling_if o (record (facts_in live) { state = x });
-      } in
-      stands_as s (at change found)
-      (ap (λ (x : State). at (difference_text live.state x) x) (sym e)
-      ∙ ap (λ (o : Option (List ℕ)). at o found) (sym is))
+  publishes s e change is = stands_as s _ (grind (arith, e, is))
 
   -- ---- the television's session, where it is open and where it isn't
   pub asked_next : Stands plan start now relay (stood live (welcomed (facts_in live))) history → (o : Option ℕ)
@@ -573,10 +541,6 @@ module _ (live : Live) {plan : Plan} {start now next : Shown} {history : History
       → Stands plan start next later (published (relayed_state later.wc_url later.companion.state) (facts_in live))
       (Heard peer bytes ∷ history)
   taken_in bytes a accepts later k =
-      stands_as (record { runs = heard bytes a; knows = k })
-      (published (relayed_state later.wc_url later.companion.state) (facts_in live))
-      (ap (λ (x : Option CompanionFault). television_told x (relayed plan (Heard peer bytes ∷ history))
-      (facts_in live)) accepts
-      ∙ ap (λ (x : List ℕ). published (relayed_state x (state_of (Heard peer bytes ∷ history))) (facts_in live))
-      (sym k.wc_url)
-      ∙ ap (λ (x : State). published (relayed_state later.wc_url x) (facts_in live)) (sym k.companion.stands.state))
+      let url = k.wc_url in
+      let state = k.companion.stands.state in
+      stands_as (record { runs = heard bytes a; knows = k }) _ (grind (arith, accepts, url, state))

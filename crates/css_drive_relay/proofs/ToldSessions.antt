@@ -6,7 +6,7 @@ use Rattle.std.proofs.lemmas.Bool.{cond_both}
 use Rattle.std.proofs.lemmas.Bool.Decides.{nat_tests}
 use Rattle.css_cii.specs.declared.state.State.{State}
 use Rattle.css_sessions.specs.Kept.{difference_text, full_text}
-use Rattle.css_sessions.specs.Told.{latest, with_text, cii_texts}
+use Rattle.css_sessions.specs.Told.{latest, with_text}
 use Rattle.css_drive.specs.TvTold.{lost, sent_to, is_gone}
 use Rattle.css_drive.proofs.TvTold.{numbered_rest}
 use Rattle.css_drive_relay.specs.Places.{Place, Facts, Progress, telling_if, without, opened_if, published, Welcomed}
@@ -111,9 +111,7 @@ went (Owed c text e) = Lost text e
 -- a session is over that was owed nothing
 ends : {states : Option SessionStates} {state : State} {sent : List (List ℕ)} {gone : Bool} {kept : ℕ}
     → Tells states state sent gone kept [] → Tells states state sent gone 0 []
-ends (Whole c e) = Over e
-ends (Over e) = Over e
-ends (Lost text e) = Lost text e
+ends t = grind (arith, t, Over, Lost)
 
 module _ {states : Option SessionStates} {state : State} {sent : List (List ℕ)} {gone : Bool} {kept : ℕ} where
   wrote_one : (same : Bool) (n : ℕ) (text : List ℕ)
@@ -142,34 +140,11 @@ owed_published : (peer : ℕ) (f : Facts) (text : Option (List ℕ))
     → owed peer (record { facts = f; place = telling_if text f }) ≡ owed_by text (count peer f.peers)
 owed_published peer f text = grind arith
 
-none_by : (text : Option (List ℕ)) → [] ≡ owed_by text 0
-none_by None = refl
-none_by (Some text) = refl
-
-owes : {states : Option SessionStates} {state : State} {sent : List (List ℕ)} → IsCurrent states state
-    → (text : Option (List ℕ)) → texts_told states ≡ with_text text sent
-    → Tells states state sent false (suc zero) (owed_by text (suc zero))
-owes c None e = Whole c e
-owes c (Some text) e = Owed c text e
-
 publishes : {states : Option SessionStates} {sent : List (List ℕ)} {gone : Bool} {kept : ℕ} {state : State}
     → Tells states state sent gone kept [] → (s : State)
     → Tells (with_state (while_open (Some s) (any kept)) states) s sent gone kept
     (owed_by (difference_text state s) kept)
-publishes {states} {sent} {state = state} (Over e) s =
-    subst (λ (xs : List (List ℕ)). Tells states s sent false zero xs) (none_by (difference_text state s)) (Over e)
-publishes {states} {sent} {state = state} (Lost text e) s =
-    subst (λ (xs : List (List ℕ)). Tells states s sent true zero xs) (none_by (difference_text state s)) (Lost text e)
-publishes {states} {sent} {state = state} (Whole c e) s =
-    let was : SessionStates = c.0 in
-    owes (
-      record { opening = was.opening; later = s ∷ was.later },
-      ap (λ (x : Option SessionStates). with_state (Some s) x) c.1,
-      refl,
-    ) (difference_text state s)
-    (ap (λ (x : Option SessionStates). texts_told (with_state (Some s) x)) c.1
-    ∙ ap (λ (x : State). with_text (difference_text x s) (cii_texts was.opening was.later)) c.2
-    ∙ ap (with_text (difference_text state s)) (sym (ap texts_told c.1) ∙ e))
+publishes t s = grind (arith, t, Whole, Owed, Over, Lost)
 
 -- ---- what was published
 after_state : (plan : Plan) (older : History) (entry : Entry)
@@ -343,7 +318,7 @@ module _ (plan : Plan) (peer : ℕ) (older : History) (t : Good plan peer older)
 all_good : (plan : Plan) (peer : ℕ) (h : History) → Followed plan h → AreNumbered h → Good plan peer h
 all_good plan peer [] each numbered = Over refl
 all_good plan peer (entry ∷ older) each numbered =
-    after plan peer older (all_good plan peer older each.1 (numbered_rest (entry ∷ []) older numbered)) entry each.0
+    after plan peer older (all_good plan peer older each.1 (numbered_rest entry older numbered)) entry each.0
     numbered
 
 -- where the end is due nothing is owed

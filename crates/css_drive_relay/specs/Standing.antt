@@ -90,7 +90,7 @@ visiting visit.Hear left f = Asked left
 abbrev pub IsStop : Driven → Type 0
 IsStop (driven.BadCii text reason) = ⊤
 IsStop (driven.Moved property old new) = ⊤
-IsStop (driven.BadUrl property) = ⊤
+IsStop (driven.BadUrl WcUrl) = ⊤
 IsStop ended = IsRelayEnd ended
 
 -- The visit's run ended as it may. Unless a fault ended it, the variables are those of its calls.

@@ -1,4 +1,4 @@
-use Rattle.std.proofs.Common.{refl, sym, ap, ◌∙◌, ℕ, List, Bool, true, Ok, Err, None, inl, inr}
+use Rattle.std.proofs.Common.{refl, sym, ap, ◌∙◌, ℕ, List, inl, inr}
 use Rattle.css_model.specs.History.{Quiet, Closed}
 use Rattle.css_outside.specs.declared.calls.Heard.TheVariants as heard
 use Rattle.css_drive.specs.CompanionStanding.{without}
@@ -21,8 +21,8 @@ returns-in_err-take_text-clause-goes g c same config before started h s k d =
     failed s _ _ k c.from_residual-in_err-take_text.ensures.1
     (fails_over c.in_ok-check.ensures.on c.in_err-take_text.ensures.told) _ s.saw_so
 
-pub returns-in_ok-take_in-in-Text-clause-goes : goal.returns-in_ok-take_in-in-Text-clause-goes
-returns-in_ok-take_in-in-Text-clause-goes g c same config before started h s k d =
+pub returns-in-Text-clause-goes : goal.returns-in-Text-clause-goes
+returns-in-Text-clause-goes g c same config before started h s k d =
     let which = c.args.session in
     let p : ℕ = c.in-Some.peer in
     let text : List ℕ = c.in-Text.text in
@@ -31,22 +31,8 @@ returns-in_ok-take_in-in-Text-clause-goes g c same config before started h s k d
     let call = rw c.in-Text.is at c.in_ok-take_text.ensures.told in
     calls.text_goes (calls.session_said s which d at (heard.Text text) call
     (c.heard.ensures (standpoint config h) k started _ c.in_ok-check.ensures.on s.saw_so) s.facts)
-    k.stands.client.lawful which is None _ (Ok true)
-    (rw same at (c.in_ok-take_in-in-Text.ensures.told config.companion p h is (rw same k)))
-
-pub returns-in_err-take_in-in-Text-clause-goes : goal.returns-in_err-take_in-in-Text-clause-goes
-returns-in_err-take_in-in-Text-clause-goes g c same config before started h s k d =
-    let which = c.args.session in
-    let p : ℕ = c.in-Some.peer in
-    let text : List ℕ = c.in-Text.text in
-    let at = sym c.peer_of.ensures ∙ c.in-Some.is in
-    let is = calls.open_kind s which at in
-    let call = rw c.in-Text.is at c.in_ok-take_text.ensures.told in
-    at_err _ _ _ _ c.from_residual-in_err-take_in-in-Text.ensures.1
-    (calls.text_goes {T = Bool} (calls.session_said s which d at (heard.Text text) call
-    (c.heard.ensures (standpoint config h) k started _ c.in_ok-check.ensures.on s.saw_so) s.facts)
-    k.stands.client.lawful which is _ c.take_in.new.companion (Err _)
-    (rw same at (c.in_err-take_in-in-Text.ensures.told config.companion p h is (rw same k))))
+    k.stands.client.lawful which is _ _ c.take_in.result
+    (rw same at (c.take_in.ensures.told config.companion p h is (rw same k)))
 
 pub returns-in_ok-let_go-in-Closed-clause-goes : goal.returns-in_ok-let_go-in-Closed-clause-goes
 returns-in_ok-let_go-in-Closed-clause-goes g c same config before started h s k d =
@@ -83,27 +69,10 @@ returns-in_err-check-clause-called g c =
     rw (sym c.peer_of.ensures ∙ c.in-Some.is)
     (at_err _ _ _ _ c.from_residual.ensures.1 (inl (c.in_err-check.ensures.unmade _)))
 
-pub returns-in_ok-take_in-in-Text-clause-called : goal.returns-in_ok-take_in-in-Text-clause-called
-returns-in_ok-take_in-in-Text-clause-called g c =
-    rw (sym c.peer_of.ensures ∙ c.in-Some.is) (
-      heard.Text c.in-Text.text,
-      record {
-        called = rw c.in-Text.is at c.in_ok-take_text.ensures.told;
-        live = refl;
-        known = λ own h is k. c.in_ok-take_in-in-Text.ensures.told own c.in-Some.peer h is k;
-      },
-      refl,
-    )
-
-pub returns-in_err-take_in-in-Text-clause-called : goal.returns-in_err-take_in-in-Text-clause-called
-returns-in_err-take_in-in-Text-clause-called g c =
-    rw (sym c.peer_of.ensures ∙ c.in-Some.is) (at_err _ _ _ _ c.from_residual-in_err-take_in-in-Text.ensures.1
-    (inr (
-      heard.Text c.in-Text.text,
-      rw c.in-Text.is at c.in_ok-take_text.ensures.told,
-      refl,
-      λ own h is k. c.in_err-take_in-in-Text.ensures.told own c.in-Some.peer h is k,
-    )))
+pub returns-in-Text-clause-called : goal.returns-in-Text-clause-called
+returns-in-Text-clause-called g c =
+    rw (sym c.peer_of.ensures ∙ c.in-Some.is) (calls.text_heard _ _ _ (rw c.in-Text.is at c.in_ok-take_text.ensures.told) refl
+    c.take_in.result c.take_in.ensures.came (λ own h is k. c.take_in.ensures.told own c.in-Some.peer h is k))
 
 pub returns-in_ok-let_go-in-Closed-clause-called : goal.returns-in_ok-let_go-in-Closed-clause-called
 returns-in_ok-let_go-in-Closed-clause-called g c =
