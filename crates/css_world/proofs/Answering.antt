@@ -25,41 +25,16 @@ use Rattle.css_world.specs.declared.lane.Lane.{Lane}
 use Rattle.css_world.proofs.Storing.{pushed, spent_stored}
 use Rattle.css_world.proofs.Carrying.{own_line, all_lanes, one_lane}
 use Rattle.css_world.proofs.Numbers.{stored_none, mapped_none}
+use Rattle.css_world.proofs.Verbs.{quiet}
 
 -- ---- an answer
--- a server's response tells what it declares
-response_same : (server : Server) (header : Header) (ticket : Ticket) (reading : ℕ)
-    → server.precision ≡ header.tv_precision → server.error ≡ header.tv_error
-    → response_to server ticket reading ≡ response_to (server_of header) ticket reading
-response_same server header ticket reading precision error =
-    ap (λ p. response_to (record server { precision = p }) ticket reading) precision
-    ∙ ap (λ e. response_to (record {
-      precision = header.tv_precision;
-      error = e;
-      follow = server.follow;
-      greatest = server.greatest;
-    }) ticket reading) error
-
--- and so does its follow-up
-follow_up_same : (server : Server) (header : Header) (ticket : Ticket) (reading : ℕ)
-    → server.precision ≡ header.tv_precision → server.error ≡ header.tv_error
-    → follow_up_for server ticket reading ≡ follow_up_for (server_of header) ticket reading
-follow_up_same server header ticket reading precision error =
-    ap (λ p. follow_up_for (record server { precision = p }) ticket reading) precision
-    ∙ ap (λ e. follow_up_for (record {
-      precision = header.tv_precision;
-      error = e;
-      follow = server.follow;
-      greatest = server.greatest;
-    }) ticket reading) error
-
--- the answer is that of the television that the header declares
+-- the answer is that of the television that the header declares: it tells nothing but what that declares
 pub answer_same : (server : Server) (header : Header) (ticket : Ticket) (reading : ℕ) (answered : Answered)
     → server.precision ≡ header.tv_precision → server.error ≡ header.tv_error
     → IsAnswerTo server ticket reading answered → IsAnswerTo (server_of header) ticket reading answered
 answer_same server header ticket reading answered precision error is = record {
-  response = is.response ∙ ap encoded (response_same server header ticket reading precision error);
-  follow_up = is.follow_up ∙ ap (option_map encoded) (follow_up_same server header ticket reading precision error);
+  response = rw error at (rw precision at is.response);
+  follow_up = rw error at (rw precision at is.follow_up);
 }
 
 -- datagrams are seen as their bytes
@@ -207,29 +182,14 @@ landed old lines number t w who l datagram reading bytes lane companion ends fir
     let same : bytes_of (numbered datagram made) ≡ bytes = ap bytes_of came.1 ∙ came.2 in
     let mine = owner_stored (numbered datagram (made_for old.header lines)) datagram who
     (sym (ends.made_for.each datagram) ∙ whose) in
+    let after : Lane = record lane { companion = companion } in
     let stand : LaneStands who (events_of old.header lines)
-    (Clock why.Land reading ∷ Took peer (bytes_of (numbered datagram made)) ∷ own)
-    (record lane { companion = companion }) =
-    record {
-      companion = rw same stands;
-      cii = was.cii;
-      ts = was.ts;
-    } in (
+    (Clock why.Land reading ∷ Took peer (bytes_of (numbered datagram made)) ∷ own) after =
+    record { companion = rw same stands; cii = was.cii; ts = was.ts } in (
       ap (is_for who) mine ∙ eq-eqb who who refl,
-      record {
-        lanes = one_lane old.header lines number t w who l (Land datagram reading) old.lanes
-            (record lane { companion = companion }) refl first within ends.lanes stand;
-        stage = ends.stage;
-        server = ends.server;
-        in_range = ends.in_range;
-        none_ahead = ends.none_ahead;
-        requests = ends.requests;
-        askers = ends.askers;
-        takes = ends.takes;
-        taken_for = ends.taken_for;
-        datagrams = ends.datagrams;
-        made_for = ends.made_for;
-      },
+      quiet old lines number t w who l (Land datagram reading) old.tv.tv (slice_set old.lanes (who - 1) after) tt ends
+          refl ends.stage (one_lane old.header lines number t w who l (Land datagram reading) old.lanes after refl first
+          within ends.lanes stand),
     )
 
 -- Where no datagram of that number is stored, or it is for another companion, none lands.

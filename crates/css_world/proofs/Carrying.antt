@@ -49,66 +49,59 @@ at_line world lines now who verb own is ends =
 abbrev pub histories : Header → List Numbered → ℕ → History
 histories header lines = λ who. history_of who header lines
 
--- A verb that adds nothing to a history leaves all histories as they were, whosever line it is.
-pub unmoved : (header : Header) (lines : List Numbered) (number t w who l : ℕ) (verb : Verb)
-    → ((n : ℕ) → done_by header n (datagrams header lines) (events_of header lines) verb (history_of n header lines)
-    ≡ history_of n header lines)
-    → (n : ℕ) → history_of n header (own_line number t w who l verb ∷ lines) ≡ history_of n header lines
-unmoved header lines number t w who l verb still n = by (who == n)
-  where
-    by : (b : Bool) → cond b
-        (done_by header n (datagrams header lines) (events_of header lines) verb (history_of n header lines))
-        (history_of n header lines) ≡ history_of n header lines
-    by true = still n
-    by false = refl
+module _ (header : Header) (lines : List Numbered) (number t w who l : ℕ) (verb : Verb) where
+  -- the lines with one more
+  abbrev after : List Numbered
+  after = own_line number t w who l verb ∷ lines
 
--- so all lanes stand for them, where they stand for what happened at the television
-pub all_lanes : (header : Header) (lines : List Numbered) (number t w who l : ℕ) (verb : Verb) (lanes : List Lane)
-    → ((n : ℕ) → done_by header n (datagrams header lines) (events_of header lines) verb (history_of n header lines)
-    ≡ history_of n header lines)
-    → LanesStand (events_of header (own_line number t w who l verb ∷ lines)) (histories header lines) lanes
-    → LanesStand (events_of header (own_line number t w who l verb ∷ lines))
-    (histories header (own_line number t w who l verb ∷ lines)) lanes
-all_lanes header lines number t w who l verb lanes still stand n lane found =
-    rw (unmoved header lines number t w who l verb still n) (stand n lane found)
+  -- what companion `n` did, and what it did by then where it carries the verb out
+  abbrev did : ℕ → History
+  did n = history_of n header lines
 
--- At a line of companion `who` the lane of each other one stands for its own history of before.
-pub own_lanes : (header : Header) (lines : List Numbered) (number t w who l : ℕ) (verb : Verb) (lanes : List Lane)
-    → ((n : ℕ) (lane : Lane) → stored lanes n ≡ Some lane → n ≢ who
-    → LaneStands n (events_of header (own_line number t w who l verb ∷ lines)) (history_of n header lines) lane)
-    → ((lane : Lane) → stored lanes who ≡ Some lane
-    → LaneStands who (events_of header (own_line number t w who l verb ∷ lines))
-    (done_by header who (datagrams header lines) (events_of header lines) verb (history_of who header lines)) lane)
-    → LanesStand (events_of header (own_line number t w who l verb ∷ lines))
-    (histories header (own_line number t w who l verb ∷ lines)) lanes
-own_lanes header lines number t w who l verb lanes others own n lane found = elim (eqb_tells n who) [
-  | inl same ↦
-      let now = own_line number t w who l verb in
-      let here = own lane (rw same.1 at found) in
-      rw same.1 (rw (history_now header now lines who refl) here)
-  | inr differs ↦
-      let now = own_line number t w who l verb in
-      rw (history_other header now lines n (λ same. differs.1 (sym same))) (others n lane found differs.1)
-]
+  abbrev does : ℕ → History
+  does n = done_by header n (datagrams header lines) (events_of header lines) verb (did n)
 
--- where nothing happened at the television, one lane alone was touched
-pub one_lane : (header : Header) (lines : List Numbered) (number t w who l : ℕ) (verb : Verb) (lanes : List Lane)
-    (lane : Lane)
-    → events_of header (own_line number t w who l verb ∷ lines) ≡ events_of header lines → 1 ≤ who
-    → who ≤ length lanes
-    → LanesStand (events_of header lines) (histories header lines) lanes
-    → LaneStands who (events_of header lines)
-    (done_by header who (datagrams header lines) (events_of header lines) verb (history_of who header lines)) lane
-    → LanesStand (events_of header (own_line number t w who l verb ∷ lines))
-    (histories header (own_line number t w who l verb ∷ lines)) (slice_set lanes (who - 1) lane)
-one_lane header lines number t w who l verb lanes lane none first within stand here =
-    own_lanes header lines number t w who l verb (slice_set lanes (who - 1) lane)
-    (λ n other found differs.
-    rw none (stand n other (sym (set_others lanes who n lane first differs) ∙ found)))
-    (λ same found.
-    let is : lane ≡ same =
-    stored_same (slice_set lanes (who - 1) lane) who lane same (set_there lanes who lane first within) found in
-    rw none (rw is at here))
+  -- Where the verb adds nothing to a history, whosever line it is, all lanes stand for their histories, if they stand for
+  -- what happened at the television.
+  pub all_lanes : (lanes : List Lane) → ((n : ℕ) → does n ≡ did n)
+      → LanesStand (events_of header after) (histories header lines) lanes
+      → LanesStand (events_of header after) (histories header after) lanes
+  all_lanes lanes still stand n lane found =
+      let same : history_of n header after ≡ did n = by (who == n) in rw same (stand n lane found)
+    where
+      by : (b : Bool) → cond b (does n) (did n) ≡ did n
+      by true = still n
+      by false = refl
+
+  -- At a line of companion `who` the lane of each other one stands for its own history of before.
+  pub own_lanes : (lanes : List Lane)
+      → ((n : ℕ) (lane : Lane) → stored lanes n ≡ Some lane → n ≢ who
+      → LaneStands n (events_of header after) (did n) lane)
+      → ((lane : Lane) → stored lanes who ≡ Some lane → LaneStands who (events_of header after) (does who) lane)
+      → LanesStand (events_of header after) (histories header after) lanes
+  own_lanes lanes others own n lane found = elim (eqb_tells n who) [
+    | inl same ↦
+        let now = own_line number t w who l verb in
+        let here = own lane (rw same.1 at found) in
+        rw same.1 (rw (history_now header now lines who refl) here)
+    | inr differs ↦
+        let now = own_line number t w who l verb in
+        rw (history_other header now lines n (λ same. differs.1 (sym same))) (others n lane found differs.1)
+  ]
+
+  -- where nothing happened at the television, one lane alone was touched
+  pub one_lane : (lanes : List Lane) (lane : Lane) → events_of header after ≡ events_of header lines → 1 ≤ who
+      → who ≤ length lanes → LanesStand (events_of header lines) (histories header lines) lanes
+      → LaneStands who (events_of header lines) (does who) lane
+      → LanesStand (events_of header after) (histories header after) (slice_set lanes (who - 1) lane)
+  one_lane lanes lane none first within stand here =
+      own_lanes (slice_set lanes (who - 1) lane)
+      (λ n other found differs.
+      rw none (stand n other (sym (set_others lanes who n lane first differs) ∙ found)))
+      (λ same found.
+      let is : lane ≡ same =
+      stored_same (slice_set lanes (who - 1) lane) who lane same (set_there lanes who lane first within) found in
+      rw none (rw is at here))
 
 -- ---- a request
 pub asked : (old : Kept) (lines : List Numbered) (number t w who l reading : ℕ) (lane : Lane)

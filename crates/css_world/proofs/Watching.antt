@@ -99,27 +99,17 @@ slept_watch {allowed} {near} {shown} {read} now is sleeps stands =
     }
 
 -- ---- all of them
--- those of other companions than the line's are not touched
-shown_apart : (header : Header) (lines : List Numbered) (now : Numbered) (read : List Seen) (n : ℕ) (watch : Watch)
-    → now.line.who ≢ n
-    → WatchStands (local_of n header).error (local_of n header).precision (seen_of n lines) read watch
-    → WatchStands (local_of n header).error (local_of n header).precision (seen_of n (now ∷ lines)) read watch
-shown_apart header lines now read n watch other = watch_as (sym (seen_other now lines n other)) refl
+-- the watch of companion `n` stands for what its clock showed and what was read of it
+abbrev OwnStands : Header → ℕ → List Seen → List Seen → Watch → Type 0
+OwnStands header n shown read watch =
+    WatchStands (local_of n header).error (local_of n header).precision shown read watch
 
-read_apart : (header : Header) (lines : List Numbered) (now : Numbered) (shown : List Seen) (n : ℕ) (watch : Watch)
-    → now.line.who ≢ n
-    → WatchStands (local_of n header).error (local_of n header).precision shown (seen_of n lines) watch
-    → WatchStands (local_of n header).error (local_of n header).precision shown (seen_of n (now ∷ lines)) watch
-read_apart header lines now shown n watch other = watch_as refl (sym (seen_other now lines n other))
-
--- a line is shown
+-- a line is shown; the watches of other companions than the line's are not touched
 pub shown_clocks : (header : Header) (old new : Clocks) (lines : List Numbered) (now : Numbered) (before after : Watch)
     → ClocksStand header old lines lines → stored old.own.items now.line.who ≡ Some before
     → WatchStands header.tv_error (precision_ns header.tv_precision) (seen_of_tv (now ∷ lines)) (seen_of_tv lines)
-    new.tv
-    → new.own.items ≡ slice_set old.own.items (now.line.who - 1) after
-    → WatchStands (local_of now.line.who header).error (local_of now.line.who header).precision
-    (own_seen now ∷ seen_of now.line.who lines) (seen_of now.line.who lines) after
+    new.tv → new.own.items ≡ slice_set old.own.items (now.line.who - 1) after
+    → OwnStands header now.line.who (own_seen now ∷ seen_of now.line.who lines) (seen_of now.line.who lines) after
     → ClocksStand header new (now ∷ lines) lines
 shown_clocks header old new lines now before after stand found tv same own =
     let who = now.line.who in
@@ -127,9 +117,9 @@ shown_clocks header old new lines now before after stand found tv same own =
       tv = tv;
       count = ap (λ (xs : List Watch). length xs) same ∙ length-set old.own.items (who - 1) after ∙ stand.count;
       own = λ n x at.
-          each_written (λ n x. WatchStands (local_of n header).error (local_of n header).precision
-          (seen_of n (now ∷ lines)) (seen_of n lines) x) old.own.items who after within.0 within.1
-          (λ n x differs there. shown_apart header lines now (seen_of n lines) n x (λ is. differs (sym is))
+          each_written (λ n x. OwnStands header n (seen_of n (now ∷ lines)) (seen_of n lines) x) old.own.items who after
+          within.0 within.1
+          (λ n x differs there. watch_as (sym (seen_other now lines n (λ is. differs (sym is)))) refl
           (stand.own n x there)) (watch_as (sym (seen_own now lines who refl)) refl own) n x
           (subst (λ (xs : List Watch). stored xs n ≡ Some x) same at);
     }
@@ -142,7 +132,7 @@ pub shown_tv : (header : Header) (old : Clocks) (lines : List Numbered) (now : N
 shown_tv header old lines now tv stand nobody shown = record {
   tv = shown;
   count = stand.count;
-  own = λ n x at. shown_apart header lines now (seen_of n lines) n x (apart n x at) (stand.own n x at);
+  own = λ n x at. watch_as (sym (seen_other now lines n (apart n x at))) refl (stand.own n x at);
 }
   where
     apart : (n : ℕ) (x : Watch) → stored old.own.items n ≡ Some x → now.line.who ≢ n
@@ -152,12 +142,10 @@ shown_tv header old lines now tv stand nobody shown = record {
 
 -- the line's companion reads its own
 pub read_own : (header : Header) (old new : Clocks) (shown lines : List Numbered) (now : Numbered)
-    (before after : Watch)
-    → ClocksStand header old shown lines → stored old.own.items now.line.who ≡ Some before
+    (before after : Watch) → ClocksStand header old shown lines → stored old.own.items now.line.who ≡ Some before
     → tv_reading now.line.verb ≡ None → new.tv ≡ old.tv
     → new.own.items ≡ slice_set old.own.items (now.line.who - 1) after
-    → WatchStands (local_of now.line.who header).error (local_of now.line.who header).precision
-    (seen_of now.line.who shown) (own_seen now ∷ seen_of now.line.who lines) after
+    → OwnStands header now.line.who (seen_of now.line.who shown) (own_seen now ∷ seen_of now.line.who lines) after
     → ClocksStand header new shown (now ∷ lines)
 read_own header old new shown lines now before after stand found none tv same own =
     let who = now.line.who in
@@ -165,9 +153,9 @@ read_own header old new shown lines now before after stand found none tv same ow
       tv = rw tv (quiet_watch (tv_seen now) none refl stand.tv);
       count = ap (λ (xs : List Watch). length xs) same ∙ length-set old.own.items (who - 1) after ∙ stand.count;
       own = λ n x at.
-          each_written (λ n x. WatchStands (local_of n header).error (local_of n header).precision
-          (seen_of n shown) (seen_of n (now ∷ lines)) x) old.own.items who after within.0 within.1
-          (λ n x differs there. read_apart header lines now (seen_of n shown) n x (λ is. differs (sym is))
+          each_written (λ n x. OwnStands header n (seen_of n shown) (seen_of n (now ∷ lines)) x) old.own.items who after
+          within.0 within.1
+          (λ n x differs there. watch_as refl (sym (seen_other now lines n (λ is. differs (sym is))))
           (stand.own n x there)) (watch_as refl (sym (seen_own now lines who refl)) own) n x
           (subst (λ (xs : List Watch). stored xs n ≡ Some x) same at);
     }
@@ -183,14 +171,11 @@ read_none header old shown lines now tv stand none awake read = record {
   own = λ n x at. by n x (stand.own n x at);
 }
   where
-    by : (n : ℕ) (x : Watch)
-        → WatchStands (local_of n header).error (local_of n header).precision (seen_of n shown) (seen_of n lines) x
-        → WatchStands (local_of n header).error (local_of n header).precision (seen_of n shown)
-        (seen_of n (now ∷ lines)) x
+    by : (n : ℕ) (x : Watch) → OwnStands header n (seen_of n shown) (seen_of n lines) x
+        → OwnStands header n (seen_of n shown) (seen_of n (now ∷ lines)) x
     by n x is = elim (eqb_tells now.line.who n) [
-      | inl same ↦
-          watch_as refl (sym (seen_own now lines n same.1)) (quiet_watch (own_seen now) none awake is)
-      | inr other ↦ read_apart header lines now (seen_of n shown) n x other.1 is
+      | inl same ↦ watch_as refl (sym (seen_own now lines n same.1)) (quiet_watch (own_seen now) none awake is)
+      | inr other ↦ watch_as refl (sym (seen_other now lines n other.1)) is
     ]
 
 -- ---- what is answered
