@@ -42,7 +42,7 @@ use Rattle.css_world.specs.Flights.{Session, opened, closed, first_in, rest_in, 
 use Rattle.css_world.specs.Flights.{SessionStands, HasNews}
 use Rattle.css_world.specs.Lanes.{LaneStands, KeepsAllButTexts, IsPlayed, KeepsAllBut, session_at, other, next_at}
 use Rattle.css_world.specs.Lanes.{taken_at, heard_as, closed_as, Greets}
-use Rattle.css_world.specs.Standing.{Kept as Both, EndsStand}
+use Rattle.css_world.specs.Standing.{Kept as Both, EndsStand, IsReady}
 use Rattle.css_world.proofs.Carrying.{own_line, one_lane}
 use Rattle.css_world.proofs.Flights.{is-live, heard-one, raised-one, written-one}
 use Rattle.css_world.proofs.Verbs.{quiet, session-played, aside, dialled-aside, wrote-aside, WhenPlayed, WhenAttended}
@@ -56,10 +56,17 @@ two_peers who kind.Cii first = cii-ts who first
 two_peers who kind.Ts first = ts-cii who first
 
 -- a lane's session of a kind, of both
-pub at_kind : (k : Kind) (who : ℕ) (events : List TvEvent) (own : History) (lane : Lane)
+at_kind : (k : Kind) (who : ℕ) (events : List TvEvent) (own : History) (lane : Lane)
     → LaneStands who events own lane → SessionStands (peer_of who k) events own (session_at k lane)
 at_kind kind.Cii who events own lane stands = stands.cii
 at_kind kind.Ts who events own lane stands = stands.ts
+
+-- so it is of ready ends
+pub stands_at : {ends : Both} {lines : List Numbered} (ready : IsReady ends lines) (who : ℕ) (k : Kind) {lane : Lane}
+    → stored ends.lanes who ≡ Some lane
+    → SessionStands (peer_of who k) (events_of ends.header lines) (history_of who ends.header lines) (session_at k lane)
+stands_at {ends} {lines} ready who k {lane} found =
+    at_kind k who (events_of ends.header lines) (history_of who ends.header lines) lane (ready.ends.lanes who lane found)
 
 played_at : (k : Kind) (who : ℕ) (events : List TvEvent) (e : TvEvent) (old new : Lane) → IsPlayed who events e old new
     → HasNews (peer_of who k) events e (session_at k old) (session_at k new)
