@@ -80,6 +80,17 @@ goes_on seed given crowd follows =
         crowd-goes_on seed given crowd h
         ∙ ap (λ (n : ℕ). crowd_after seed n (given + 1 - openings n)) (sym (from-kept crowd (given + 1)))
 
+-- so does its generator
+pub next-is : (seed lines given : ℕ) (crowd next : Crowd) → IsGenerator seed lines given crowd
+    → next ≡ crowd_with crowd (given + 1) → IsGenerator seed lines (given + 1) next
+next-is seed lines given crowd next is same = record {
+  few = is.few;
+  companions = subst AreSome (sym (ap (λ (x : Crowd). x.companions) same ∙ companions-kept crowd (given + 1)))
+      is.companions;
+  follows = subst (λ (x : Crowd). Follows (x.companions == 1) seed (given + 1) x) (sym same)
+      (goes_on seed given crowd is.follows);
+}
+
 -- a line more can be given
 pub can_give : (seed given : ℕ) (crowd : Crowd) → AreSome crowd.companions → given ≤ 200000
     → Follows (crowd.companions == 1) seed given crowd → CanGive (crowd.companions == 1) crowd

@@ -7,7 +7,7 @@ use Rattle.css_schedule.specs.Owners.{is_own}
 use Rattle.css_schedule.specs.Ranges.{IsLine, IsSecond}
 use Rattle.css_schedule.specs.declared.line.Line.{Line}
 use Rattle.css_schedule.specs.declared.line.Verb.{Verb}
-use Rattle.css_schedule.specs.declared.line.Verb.TheVariants.{Ask, Take, Give, Land, Wall, Print, Sleep}
+use Rattle.css_schedule.specs.declared.line.Verb.TheVariants.{Ask, Take, Give, Land, Viewer, Wall, Print}
 use Rattle.css_meaning.specs.declared.fault.WorldFault.{WorldFault}
 use Rattle.css_meaning.specs.Happened.{Numbered}
 use Rattle.css_meaning.specs.Verdicts.{tv_reading, own_reading, shown_tested, reading_tested, tested, carried_out}
@@ -63,11 +63,8 @@ reads-tv : (senders askers : List ℕ) (given w who l : ℕ) (verb : Verb) → C
     → IfSome (tv_reading verb) (λ reading. reading ≡ w)
 reads-tv senders askers given w who l (Take n r) comes = comes.2
 reads-tv senders askers given w who l (Give n r) comes = comes.2
-reads-tv senders askers given w who l (Ask r) comes = tt
-reads-tv senders askers given w who l (Land n r) comes = tt
-reads-tv senders askers given w who l (Print r) comes = tt
-reads-tv senders askers given w who l Sleep comes = tt
-reads-tv senders askers given w who l _ comes = absurd comes
+reads-tv senders askers given w who l (Viewer r command) comes = absurd comes
+reads-tv senders askers given w who l _ comes = tt
 
 reads-own : (senders askers : List ℕ) (given w who l : ℕ) (verb : Verb) → Comes senders askers given w who l verb
     → IfSome (own_reading verb) (λ reading. reading ≡ l)
