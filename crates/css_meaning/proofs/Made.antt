@@ -59,11 +59,13 @@ made_by header at taken owners (Give take reading) =
     made_to header at take (unwrap_or (numbered take owners) 0) reading (numbered take taken)
 made_by header at taken owners _ = []
 
--- the datagrams of lines
+-- those that it makes after lines, and those of all lines
+abbrev made_at : Header → List Numbered → Verb → List Made
+made_at header older verb = made_by header (length older) (tickets header older) (taken_for older) verb
+
 abbrev pub made : Header → List Numbered → List Made
 made header [] = []
-made header (now ∷ older) =
-    made_by header (length older) (tickets header older) (taken_for older) now.line.verb ++ made header older
+made header (now ∷ older) = made_at header older now.line.verb ++ made header older
 
 -- ---- the same datagrams
 abbrev message_of : Made → Message
@@ -122,8 +124,7 @@ owners-by header at taken owners _ = refl
 messages-made : (header : Header) (lines : List Numbered) → map message_of (made header lines) ≡ datagrams header lines
 messages-made header [] = refl
 messages-made header (now ∷ older) =
-    part-append message_of (made_by header (length older) (tickets header older) (taken_for older) now.line.verb)
-    (made header older)
+    part-append message_of (made_at header older now.line.verb) (made header older)
     ∙ ap (λ xs. xs ++ map message_of (made header older))
     (messages-by header (length older) (tickets header older) (taken_for older) now.line.verb)
     ∙ ap (λ ys. answers_by header (tickets header older) now.line.verb ++ ys) (messages-made header older)
@@ -132,8 +133,7 @@ messages-made header (now ∷ older) =
 owners-made : (header : Header) (lines : List Numbered) → map owner_of (made header lines) ≡ made_for header lines
 owners-made header [] = refl
 owners-made header (now ∷ older) =
-    part-append owner_of (made_by header (length older) (tickets header older) (taken_for older) now.line.verb)
-    (made header older)
+    part-append owner_of (made_at header older now.line.verb) (made header older)
     ∙ ap (λ xs. xs ++ map owner_of (made header older))
     (owners-by header (length older) (tickets header older) (taken_for older) now.line.verb)
     ∙ ap (λ ys. owners_by header (tickets header older) (taken_for older) now.line.verb ++ ys)
@@ -294,7 +294,7 @@ made_by-line : (world : World) (moment_of : ℕ → ℕ) (header : Header) (who 
     → NearBy (precision_ns header.tv_precision) now.line.w (tv_reading verb)
     → ((number : ℕ) (ticket : Ticket) → numbered number (tickets header older) ≡ Some ticket
     → numbered number (taken_for older) ≡ Some who → IsTaken world moment_of header who older ticket)
-    → d.owner ≡ who → IsIn d (made_by header (length older) (tickets header older) (taken_for older) verb)
+    → d.owner ≡ who → IsIn d (made_at header older verb)
     → IsMade world moment_of header who (now ∷ older) d
 made_by-line world moment_of header who now older d (Give take reading) is first range at near taken owned h =
     by (numbered take (tickets header older)) refl h
@@ -333,8 +333,7 @@ pub made_each : (world : World) (moment_of : ℕ → ℕ) (header : Header) (who
     → d.owner ≡ who → IsIn d (made header lines) → IsMade world moment_of header who lines d
 made_each world moment_of header who [] d first accepted agreed owned h = absurd h
 made_each world moment_of header who (now ∷ older) d first accepted agreed owned h =
-    elim (in-append (made_by header (length older) (tickets header older) (taken_for older) now.line.verb)
-    (made header older) d h) [
+    elim (in-append (made_at header older now.line.verb) (made header older) d h) [
       | inl p ↦ made_by-line world moment_of header who now older d now.line.verb refl first accepted.0.verb agreed.0
           (tv_near header older now (tested_ok header older now accepted.3.0 accepted.3.1))
           (λ number ticket p q. taken_each world moment_of header who older number ticket accepted.4 agreed.2 p q)
@@ -352,7 +351,7 @@ record IsGivenNow (older : List Numbered) (d : Made) : Type 0 where
 -- what this verb makes is given at this line
 given_now : (header : Header) (older : List Numbered) (who : ℕ) (d : Made) (verb : Verb)
     → can_exchange header older who verb ≡ true
-    → IsIn d (made_by header (length older) (tickets header older) (taken_for older) verb) → IsGivenNow older d
+    → IsIn d (made_at header older verb) → IsGivenNow older d
 given_now header older who d (Give take reading) can h = by (numbered take (tickets header older)) h
   where
     fresh : is_given take older ≡ false
@@ -374,13 +373,12 @@ given_before : (header : Header) (lines : List Numbered) (d : Made) → IsIn d (
     → is_given d.take lines ≡ true
 given_before header [] d h = absurd h
 given_before header (now ∷ older) d h =
-    elim (in-append (made_by header (length older) (tickets header older) (taken_for older) now.line.verb)
-    (made header older) d h) [
+    elim (in-append (made_at header older now.line.verb) (made header older) d h) [
       | inl p ↦ by now.line.verb p
       | inr q ↦ or_right (gives d.take now.line.verb) (is_given d.take older) (given_before header older d q)
     ]
   where
-    by : (verb : Verb) → IsIn d (made_by header (length older) (tickets header older) (taken_for older) verb)
+    by : (verb : Verb) → IsIn d (made_at header older verb)
         → (gives d.take verb || is_given d.take older) ≡ true
     by (Give take reading) p = to (numbered take (tickets header older)) p
       where
@@ -402,7 +400,7 @@ one_giving header (now ∷ older) a b accepted p q e =
     by (in-append here rest a p) (in-append here rest b q) (λ u v. one_giving header older a b accepted.4 u v e)
   where
     here : List Made
-    here = made_by header (length older) (tickets header older) (taken_for older) now.line.verb
+    here = made_at header older now.line.verb
 
     rest : List Made
     rest = made header older
