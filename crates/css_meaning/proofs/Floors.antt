@@ -2,14 +2,11 @@
 -- down, the sum is that of the sum, or one less.
 use Rattle.std.proofs.Common.{◌≡◌, ◌≢◌, ℕ, ◌+◌, ◌*◌, ◌<◌, ◌⊎◌, inl, inr, arith, ap, sym, ◌∙◌}
 use Rattle.std.specs.Prelude.{ℤ, pos, ◌+ℤ◌, ◌-ℤ◌, ◌*ℤ◌, ◌≤ℤ◌, ◌<ℤ◌}
-use Rattle.std.proofs.lemmas.Bool.Decides.{eqb_tells}
-use Rattle.std.proofs.lemmas.Int.{ints}
 use borrow.Author.Differences.{up, down, product_is, same_in}
 use Rattle.css_num.specs.Division.{floor_div}
 use Rattle.css_num.proofs.Rounding.{le-floor_div_iff, floor_div_times-le, lt-floor_div_next_times, lt_of_times-lt}
-use Rattle.css_player.specs.Player.{Segment, Track}
 use Rattle.css_player.specs.Segments.{media_at, tick_of, position_at}
-use Rattle.css_companion.specs.Positions.{position}
+use Rattle.css_meaning.proofs.Names.{eqb_tells, ints, Segment, Track, position}
 
 -- a whole number that isn't below another one, and not above the next one, is one of the two
 one_of_two : (k f : ℤ) → f ≤ℤ k → k ≤ℤ (f +ℤ pos 1) → (k ≡ f) ⊎ (k ≡ f +ℤ pos 1)

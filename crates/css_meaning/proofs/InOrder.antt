@@ -1,34 +1,20 @@
 -- The k-th text of a session of a companion tells the k-th state or control, and none is refused.
-use Rattle.std.proofs.Common.{◌≡◌, ℕ, ◌+◌, ◌-◌, ◌≤◌, drop, refl, ap, sym, subst, ◌∙◌, arith}
-use Rattle.std.proofs.Common.{Bool, true, false, cond, List, [], ◌∷◌, ◌++◌, length, length-append}
+use Rattle.std.proofs.Common.{◌≡◌, ℕ, ◌+◌, ◌-◌, ◌≤◌, drop, refl, ap, sym, subst, ◌∙◌, arith, Bool, true, false, cond}
+use Rattle.std.proofs.Common.{List, [], ◌∷◌, ◌++◌, length, length-append}
 use Rattle.std.specs.Prelude.{Option, Some, None, IfSome, is_some, Result, Ok}
-use Rattle.std.specs.Option.{option_or, option_map, option_to_list}
-use Rattle.std.proofs.lemmas.Bool.{and_parts, not-true}
+use Rattle.std.specs.Option.{option_map, option_to_list}
 use Rattle.css_model.specs.declared.Kind.{Kind as Dialling}
 use Rattle.css_model.specs.declared.Kind.TheVariants as session
-use Rattle.css_model.specs.declared.Message.{Message}
-use Rattle.css_model.specs.History.{History, Heard}
-use Rattle.css_num.specs.declared.control.Control.{Control}
 use Rattle.css_cii.specs.States.{applied}
-use Rattle.css_cii.specs.declared.state.State.{State}
 use Rattle.css_tsmsg.specs.Controls.{control_of}
-use Rattle.css_tsmsg.specs.declared.fault.TsFault.{TsFault}
 use Rattle.css_tsmsg.specs.Setups.{IsUtf8Setup}
-use Rattle.css_tsmsg.specs.declared.setup.Setup.{Setup}
-use Rattle.css_num.specs.declared.protocol.Kind.{Kind}
 use Rattle.css_num.specs.declared.protocol.Kind.TheVariants as kind
 use Rattle.css_sessions.specs.ReadBack.{IsReadBack, AreReadBack}
 use Rattle.css_sessions.specs.Told.{Life, CiiLife, Unset, TsLife, Lived, texts_of_life, texts_of_lived}
 use Rattle.css_sessions.proofs.ReadBack.{read_back}
-use Rattle.css_tv.specs.Standing.{calls_of}
-use Rattle.css_tv.specs.declared.event.TvEvent.{TvEvent}
 use Rattle.css_companion.specs.Contents.{told, next_number}
 use Rattle.css_companion.specs.Meanings.{kind_of, is_cii, is_ts, cii_text, ts_text, texts_of, state_of, control_by}
 use Rattle.css_companion.specs.Published.{latest, TellsState, TellsNewest, TellsStates}
-use Rattle.css_companion.proofs.Telling.{told_is_published}
-use Rattle.css_schedule.specs.declared.header.Header.{Header}
-use Rattle.css_schedule.specs.Ranges.{IsCount}
-use Rattle.css_schedule.specs.declared.line.Verb.{Verb}
 use Rattle.css_schedule.specs.declared.line.Verb.TheVariants as verb
 use Rattle.css_meaning.specs.Arrived.{states_of_lived, states_come, IsToldInOrder}
 use Rattle.css_meaning.specs.Sessions.{addresses, peer_of, setup_of, is_open, was_opened, heard_from, told_to}
@@ -36,6 +22,8 @@ use Rattle.css_meaning.specs.Sessions.{next_down}
 use Rattle.css_meaning.specs.Happened.{Numbered, hearing, event_by, done_by, events_of, history_of}
 use Rattle.css_meaning.specs.Verdicts.{IsDeclared, can_talk}
 use Rattle.css_meaning.specs.Accepted.{AreAccepted}
+use Rattle.css_meaning.proofs.Names.{option_or, and_parts, not-true, Message, History, Heard, Control, State, TsFault}
+use Rattle.css_meaning.proofs.Names.{Setup, Kind, calls_of, TvEvent, told_is_published, Header, IsCount, Verb}
 use Rattle.css_meaning.proofs.Peers.{cii_of, ts_of, cii-ts, ts-cii}
 use Rattle.css_meaning.proofs.Entries.{heard-one, heard-apart}
 use Rattle.css_meaning.proofs.Ends.{events_with}

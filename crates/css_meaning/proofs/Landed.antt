@@ -2,27 +2,18 @@
 use Rattle.std.proofs.Common.{◌≡◌, ℕ, suc, ◌^◌, ◌<◌, ◌≤◌, ◌/◌, ◌%◌, arith, ap, sym, subst, ◌∙◌, refl, Bool, true, false}
 use Rattle.std.proofs.Common.{cond, ◌==◌, List, [], ◌∷◌, ◌++◌, length, inr, Option, Some, None, IfSome, Result, Ok}
 use Rattle.std.proofs.Common.{◌&&◌, pos, int_lt, nat_lt, ◌≢◌, le-ltb, lt-ltb, eqb-true, option_map, option_and_then}
-use Rattle.std.specs.Result.{result_ok}
-use Rattle.css_model.specs.declared.TheConstants.{LIMIT}
-use Rattle.css_model.specs.declared.Message.{Message}
-use Rattle.css_model.specs.declared.WcFault.{WcFault}
 use Rattle.css_model.specs.declared.WcFault.TheVariants as wc
 use Rattle.css_model.specs.declared.Why.TheVariants as why
-use Rattle.css_model.specs.Numbers.{IsWithin, precision_ns, max_error}
-use Rattle.css_model.specs.World.{World}
 use Rattle.css_model.specs.Wire.{encoded, decoded, stamp_of, second}
-use Rattle.css_model.specs.History.{Entry, History, Clock, Took, Each, LandedAnswer, landed_answer, answer_in, is_asked}
-use Rattle.css_model.proofs.Lately.{IsIn}
 use Rattle.css_model.proofs.Narrowest.{is_not_less}
 use Rattle.css_wc.proofs.Codec.{IsStamp, decoded-encoded}
-use Rattle.css_server.specs.Tickets.{Ticket, answer_message}
-use Rattle.css_schedule.specs.declared.header.Header.{Header}
-use Rattle.css_schedule.specs.declared.line.Verb.{Verb}
-use Rattle.css_schedule.specs.declared.line.Verb.TheVariants.{Ask, Land}
 use Rattle.css_meaning.specs.Happened.{Numbered, server_of, datagrams, made_for, bytes_of, history_of, peer}
 use Rattle.css_meaning.specs.Numbering.{numbered}
 use Rattle.css_meaning.specs.Verdicts.{is_for, can_exchange, IsDeclared}
 use Rattle.css_meaning.specs.Accepted.{AreAccepted}
+use Rattle.css_meaning.proofs.Names.{result_ok, LIMIT, Message, WcFault, IsWithin, precision_ns, max_error, World}
+use Rattle.css_meaning.proofs.Names.{Entry, History, Clock, Took, Each, LandedAnswer, landed_answer, answer_in}
+use Rattle.css_meaning.proofs.Names.{is_asked, IsIn, Ticket, answer_message, Header, Verb, Ask, Land}
 use Rattle.css_meaning.proofs.Lawful.{IsTalk, Adds, each_line}
 use Rattle.css_meaning.proofs.Ends.{can_exchange_now}
 use Rattle.css_meaning.proofs.Moments.{Agrees, AreHere, entries-here}

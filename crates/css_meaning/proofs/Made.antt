@@ -2,24 +2,15 @@
 use Rattle.std.proofs.Common.{◌≡◌, ℕ, suc, ◌<◌, ◌≤◌, ◌⊎◌, inl, inr, arith, ap, sym, subst, ◌∙◌, refl, Bool, true, false}
 use Rattle.std.proofs.Common.{cond, ◌==◌, not, List, [], ◌∷◌, ◌++◌, map, length, Option, Some, None, is_some, unwrap_or}
 use Rattle.std.proofs.Common.{◌||◌, eq-eqb, ne_eqb, option_map, option_to_list}
-use Rattle.std.proofs.lemmas.List.{length-map}
-use Rattle.std.proofs.lemmas.Bool.{and_parts, false≢true, or_right, not-true}
-use Rattle.css_model.specs.declared.TheConstants.{LIMIT}
-use Rattle.css_model.specs.declared.Message.{Message}
-use Rattle.css_model.specs.Numbers.{IsWithin, precision_ns}
-use Rattle.css_model.specs.World.{World}
-use Rattle.css_model.proofs.Lately.{IsIn}
-use Rattle.css_server.specs.Tickets.{Server, Ticket, answer_message, follow_up_to}
-use Rattle.css_schedule.specs.declared.header.Header.{Header}
-use Rattle.css_schedule.specs.declared.line.Verb.{Verb}
-use Rattle.css_schedule.specs.declared.line.Verb.TheVariants.{Give}
-use Rattle.css_schedule.specs.Ranges.{IsVerb}
 use Rattle.css_meaning.specs.Happened.{Numbered, requests, tickets, ticket_by, taken_for, server_of, answers_to}
 use Rattle.css_meaning.specs.Happened.{answers_by, datagrams, owners_by, made_for, gives, is_given}
 use Rattle.css_meaning.specs.Numbering.{numbered}
 use Rattle.css_meaning.specs.Verdicts.{tv_reading, can_exchange}
 use Rattle.css_meaning.specs.Accepted.{AreAccepted}
 use Rattle.css_meaning.specs.Worlds.{moment}
+use Rattle.css_meaning.proofs.Names.{length-map, and_parts, false≢true, or_right, not-true, LIMIT, Message, IsWithin}
+use Rattle.css_meaning.proofs.Names.{precision_ns, World, IsIn, Server, Ticket, answer_message, follow_up_to, Header}
+use Rattle.css_meaning.proofs.Names.{Verb, Give, IsVerb}
 use Rattle.css_meaning.proofs.Worlds.{tested_ok}
 use Rattle.css_meaning.proofs.Ends.{can_exchange_now}
 use Rattle.css_meaning.proofs.Moments.{Agrees, NearBy, tv_near}

@@ -2,23 +2,14 @@
 use Rattle.std.proofs.Common.{◌≡◌, ℕ, ◌<◌, ◌⊎◌, arith, ap, sym, subst, ◌∙◌, refl, Bool, true, false, cond, List, []}
 use Rattle.std.proofs.Common.{◌∷◌, ℤ, pos, negsuc, ◌+ℤ◌, ◌≤ℤ◌, Option, Some, None, Ok, map, find, bytes_eq, nat_eq}
 use Rattle.std.proofs.Common.{unsigned_abs, option_map, option_and_then}
-use Rattle.std.specs.List.{starts_with}
-use Rattle.std.specs.Option.{option_or}
-use Rattle.std.proofs.lemmas.Int.{ints}
-use Rattle.css_num.specs.Rates.{TickRate}
-use Rattle.css_num.specs.declared.control.Control.{Control}
-use Rattle.css_num.specs.declared.control.Control.TheVariants.{Unavailable}
-use Rattle.css_num.specs.declared.timeline.Timeline.{Timeline}
-use Rattle.css_tsmsg.specs.declared.setup.Setup.{Setup}
-use Rattle.css_player.specs.Player.{Player, Programme, Segment, Track}
 use Rattle.css_player.specs.Segments.{numbered, present, track_of, told_of, tick_of, position_at, control_at}
 use Rattle.css_player.specs.Segments.{control_in, control_from, rate_in}
 use Rattle.css_sessions.specs.Offsets.{control_for}
 use Rattle.css_tv.specs.States.{timelines_of}
-use Rattle.css_companion.specs.Positions.{position}
-use Rattle.css_companion.specs.Reports.{assigned_by, timing_by, timing_of}
 use Rattle.css_companion.specs.TimelineRates.{first_rate, rate_of, unlisted_rate}
 use Rattle.css_meaning.specs.Arrived.{published_tick, IsShownAt}
+use Rattle.css_meaning.proofs.Names.{starts_with, option_or, ints, TickRate, Control, Unavailable, Timeline, Setup}
+use Rattle.css_meaning.proofs.Names.{Player, Programme, Segment, Track, position, assigned_by, timing_by, timing_of}
 use Rattle.css_meaning.proofs.Floors.{shown_nearly}
 
 -- the first rate with a selector is that of the first timeline with it

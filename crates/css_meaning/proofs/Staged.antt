@@ -1,25 +1,16 @@
 -- What happens at the television comes of its own companion, at each line: both ends go on from line to line.
-use Rattle.std.proofs.Common.{◌≡◌, ◌≢◌, ℕ, ◌*◌, ◌≤◌, refl, arith, true, false, inl, inr, ne_eqb, List, []}
-use Rattle.std.proofs.Common.{◌∷◌, ◌++◌, length, Option, Some, None, IfSome, ◌==◌, option_to_list, option_map}
-use Rattle.std.proofs.lemmas.Bool.Decides.{eqb_tells}
-use Rattle.css_model.specs.declared.Message.{Message}
-use Rattle.css_schedule.specs.Owners.{is_own}
+use Rattle.std.proofs.Common.{◌≡◌, ◌≢◌, ℕ, ◌*◌, ◌≤◌, refl, arith, true, false, inl, inr, ne_eqb, List, [], ◌∷◌, ◌++◌}
+use Rattle.std.proofs.Common.{length, Option, Some, None, IfSome, ◌==◌, option_to_list, option_map}
 use Rattle.css_num.specs.declared.protocol.Kind.TheVariants as kind
-use Rattle.css_model.specs.History.{History}
-use Rattle.css_num.specs.declared.protocol.Kind.{Kind}
 use Rattle.css_sessions.specs.Kept.{talk_of}
 use Rattle.css_sessions.specs.Told.{life_of, sessions_of}
-use Rattle.css_tv.specs.Standing.{calls_of}
-use Rattle.css_tv.specs.declared.event.TvEvent.{TvEvent}
 use Rattle.css_tv.specs.declared.event.TvEvent.TheVariants as event
-use Rattle.css_schedule.specs.declared.header.Header.{Header}
-use Rattle.css_schedule.specs.declared.line.Verb.{Verb}
 use Rattle.css_schedule.specs.declared.line.Verb.TheVariants as verb
-use Rattle.css_schedule.specs.Ranges.{IsVerb}
 use Rattle.css_meaning.specs.Sessions.{addresses, peer_of, was_opened, next_up}
 use Rattle.css_meaning.specs.Happened.{Numbered, datagrams, event_by, done_by, events_of, history_of}
 use Rattle.css_meaning.specs.Verdicts.{can_talk}
 use Rattle.css_meaning.specs.Accepted.{AreAccepted}
+use Rattle.css_meaning.proofs.Names.{eqb_tells, Message, is_own, History, Kind, calls_of, TvEvent, Header, Verb, IsVerb}
 use Rattle.css_meaning.proofs.Ends.{events_with, events_now, history_now, history_other, can_talk_now}
 use Rattle.css_meaning.proofs.Opening.{IsNeverOpened, opens_at, stays_unknown, unknown_by}
 use Rattle.css_meaning.proofs.Entries.{concerns}

@@ -2,30 +2,18 @@
 use Rattle.std.proofs.Common.{◌≡◌, ℕ, suc, ◌<◌, ◌≤◌, ◌⊎◌, inl, inr, arith, ap, sym, subst, ◌∙◌, refl, Bool, true, false}
 use Rattle.std.proofs.Common.{cond, ◌==◌, List, [], ◌∷◌, ◌++◌, length, All, Option, Some, None, is_some, Result}
 use Rattle.std.proofs.Common.{eqb-true, option_map, option_and_then, option_to_list}
-use Rattle.std.specs.Result.{result_ok}
-use Rattle.std.proofs.lemmas.Bool.Decides.{eqb_tells}
-use Rattle.css_model.specs.declared.TheConstants.{LIMIT}
 use Rattle.css_model.specs.declared.Stamp.{Stamp}
-use Rattle.css_model.specs.declared.Message.{Message}
-use Rattle.css_model.specs.declared.WcFault.{WcFault}
-use Rattle.css_model.specs.Numbers.{IsWithin, precision_ns}
-use Rattle.css_model.specs.World.{World}
 use Rattle.css_model.specs.Wire.{encoded, request_at, stamp_of}
-use Rattle.css_model.specs.History.{Entry, History, Sent, request_by}
 use Rattle.css_model.specs.Explains.{IsJustAsked, WasAsked}
-use Rattle.css_model.proofs.Lately.{IsIn}
-use Rattle.css_server.specs.Tickets.{Ticket}
 use Rattle.css_server.specs.Exchanges.{ArePromised, PromisesRise}
-use Rattle.css_schedule.specs.declared.header.Header.{Header}
-use Rattle.css_schedule.specs.declared.line.Verb.{Verb}
-use Rattle.css_schedule.specs.declared.line.Verb.TheVariants.{Ask, Take}
-use Rattle.css_schedule.specs.Ranges.{IsVerb}
 use Rattle.css_meaning.specs.Happened.{Numbered, asked_by, requests, askers, ticket_at, ticket_by, asker_by, tickets}
 use Rattle.css_meaning.specs.Happened.{taken_for, datagrams, events_of, history_of, peer}
 use Rattle.css_meaning.specs.Numbering.{numbered}
 use Rattle.css_meaning.specs.Verdicts.{tv_reading}
 use Rattle.css_meaning.specs.Accepted.{AreAccepted}
 use Rattle.css_meaning.specs.Worlds.{moment}
+use Rattle.css_meaning.proofs.Names.{result_ok, eqb_tells, LIMIT, Message, WcFault, IsWithin, precision_ns, World}
+use Rattle.css_meaning.proofs.Names.{Entry, History, Sent, request_by, IsIn, Ticket, Header, Verb, Ask, Take, IsVerb}
 use Rattle.css_meaning.proofs.Worlds.{all-head, all-tail, tested_ok}
 use Rattle.css_meaning.proofs.Ends.{history_now, history_other}
 use Rattle.css_meaning.proofs.Lawful.{done_at, once_by, request_back}
