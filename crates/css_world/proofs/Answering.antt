@@ -2,26 +2,19 @@
 use Rattle.std.proofs.Common.{◌≡◌, ◌≢◌, ℕ, ◌-◌, append_assoc, ◌<◌, ◌≤◌, arith, true, false, not, List, [], ◌∷◌, ◌++◌}
 use Rattle.std.proofs.Common.{length, refl, ap, sym, ◌∙◌, ◌⊎◌, inl, inr, eq-eqb, ne_eqb}
 use Rattle.std.specs.Prelude.{◌&&◌, map, unwrap_or, slice_set, Option, Some, None, is_some, option_to_list}
-use Rattle.std.specs.Option.{option_map, option_flatten}
+use Rattle.std.specs.Option.{option_map}
 use Rattle.css_model.specs.declared.Message.{Message}
 use Rattle.css_model.specs.declared.Why.TheVariants as why
-use Rattle.css_model.specs.Wire.{encoded}
-use Rattle.css_model.specs.History.{Clock, Took}
 use Rattle.css_companion.specs.Standing as companions
-use Rattle.css_companion.specs.Standing.{Companion}
-use Rattle.css_server.specs.Tickets.{Server, Ticket, response_to, follow_up_for}
 use Rattle.css_server.specs.declared.server.Answered.{Answered}
-use Rattle.css_schedule.specs.declared.header.Header.{Header}
-use Rattle.css_schedule.specs.declared.line.Verb.TheVariants.{Give, Land}
-use Rattle.css_meaning.specs.Happened.{Numbered, tickets, taken_for, datagrams, made_for, server_of, answers_to}
-use Rattle.css_meaning.specs.Happened.{is_given, peer, bytes_of, events_of, history_of}
-use Rattle.css_meaning.specs.Numbering.{numbered, stored, spent}
-use Rattle.css_meaning.specs.Verdicts.{is_for}
-use Rattle.css_meaning.proofs.Made.{made_count, mapped_some, numbered-le}
 use Rattle.css_world.specs.declared.television.Television.{Television}
 use Rattle.css_world.specs.Standing.{Kept, AreStored, owner, open_ticket, EndsStand, IsAnswerTo, Answers}
 use Rattle.css_world.specs.Lanes.{LaneStands}
 use Rattle.css_world.specs.declared.lane.Lane.{Lane}
+use Rattle.css_world.proofs.Names.{option_flatten, encoded, Clock, Took, Companion, Server, Ticket, response_to}
+use Rattle.css_world.proofs.Names.{follow_up_for, Header, Give, Land, Numbered, tickets, taken_for, datagrams, made_for}
+use Rattle.css_world.proofs.Names.{server_of, answers_to, is_given, peer, bytes_of, events_of, history_of, numbered}
+use Rattle.css_world.proofs.Names.{stored, spent, is_for, made_count, mapped_some, numbered-le}
 use Rattle.css_world.proofs.Storing.{pushed, spent_stored}
 use Rattle.css_world.proofs.Carrying.{own_line, all_lanes, one_lane}
 use Rattle.css_world.proofs.Numbers.{stored_none, mapped_none}

@@ -1,35 +1,18 @@
 -- What happens at a session is carried out: both ends stand for the line too.
-use Rattle.std.proofs.Common.{◌≡◌, ◌≤◌, ◌-◌, ◌==◌, ℕ, true, false, List, ◌∷◌, length, arith, ◌++◌, refl, ap, sym}
-use Rattle.std.proofs.Common.{◌∙◌, inl, option_map, option_to_list, slice_set, Option, Some, None, Ok}
+use Rattle.std.proofs.Common.{◌≡◌, ◌≤◌, ◌-◌, ◌==◌, ℕ, true, false, List, ◌∷◌, length, arith, ◌++◌, refl, ap, sym, ◌∙◌}
+use Rattle.std.proofs.Common.{inl, option_map, option_to_list, slice_set, Option, Some, None, Ok}
 use Rattle.css_model.specs.declared.Kind.TheVariants as session
-use Rattle.css_model.specs.History.{History, Dialled, Heard, Wrote, Closed}
-use Rattle.css_num.specs.declared.protocol.Kind.{Kind}
 use Rattle.css_num.specs.declared.protocol.Kind.TheVariants as kind
 use Rattle.css_sessions.specs.Kept.{Kept, talk_of}
 use Rattle.css_sessions.specs.Told.{sessions_of}
 use Rattle.css_tsmsg.specs.Presentations.{presentation_text}
 use Rattle.css_tsmsg.specs.Setups.{setup_text}
-use Rattle.css_tsmsg.specs.declared.bound.Bound.{Bound}
-use Rattle.css_tsmsg.specs.declared.setup.Setup.{Setup}
 use Rattle.css_tv.specs.Stages.{Television as Tv}
-use Rattle.css_tv.specs.Standing.{calls_of}
-use Rattle.css_tv.specs.declared.event.TvEvent.{TvEvent}
 use Rattle.css_tv.specs.declared.event.TvEvent.TheVariants as event
 use Rattle.css_companion.specs.Standing as companions
-use Rattle.css_companion.specs.Standing.{Companion}
 use Rattle.css_companion.specs.Contents.{next_number, told}
 use Rattle.css_companion.specs.Meanings.{kind_of, texts_of}
-use Rattle.css_companion.specs.Steps.{window, owed, none_owed, IsEvent, IsEntryOf}
 use Rattle.css_companion.specs.declared.event.CompanionEvent.TheVariants as happening
-use Rattle.css_schedule.specs.declared.line.Verb.{Verb}
-use Rattle.css_schedule.specs.declared.line.Verb.TheVariants.{Opening, Bring, Up, Present, Close}
-use Rattle.css_meaning.specs.Sessions.{addresses, peer_of, setup_of, is_open, was_opened, heard_from, written_to}
-use Rattle.css_meaning.specs.Sessions.{received_from, told_to, next_down}
-use Rattle.css_meaning.specs.Happened.{Numbered, dialled, events_of, history_of}
-use Rattle.css_meaning.specs.Numbering.{stored}
-use Rattle.css_meaning.specs.Verdicts.{IsDeclared, played}
-use Rattle.css_meaning.specs.Accepted.{AreAccepted}
-use Rattle.css_meaning.proofs.Peers.{cii_of, ts_of, cii-ts, ts-cii}
 use Rattle.css_meaning.proofs.Entries.{dialled-open, dialled-was, dialled-open_apart, dialled-was_apart, closed-open}
 use Rattle.css_meaning.proofs.Entries.{closed-open_apart, heard-apart, wrote-one, heard-one as heard-now, wrote-apart}
 use Rattle.css_meaning.proofs.Entries.{received-one, received-apart}
@@ -43,6 +26,11 @@ use Rattle.css_world.specs.Flights.{SessionStands, HasNews}
 use Rattle.css_world.specs.Lanes.{LaneStands, KeepsAllButTexts, IsPlayed, KeepsAllBut, session_at, other, next_at}
 use Rattle.css_world.specs.Lanes.{taken_at, heard_as, closed_as, Greets}
 use Rattle.css_world.specs.Standing.{Kept as Both, EndsStand, IsReady}
+use Rattle.css_world.proofs.Names.{History, Dialled, Heard, Wrote, Closed, Kind, Bound, Setup, calls_of, TvEvent}
+use Rattle.css_world.proofs.Names.{Companion, window, owed, none_owed, IsEvent, IsEntryOf, Verb, Opening, Bring, Up}
+use Rattle.css_world.proofs.Names.{Present, Close, addresses, peer_of, setup_of, is_open, was_opened, heard_from}
+use Rattle.css_world.proofs.Names.{written_to, received_from, told_to, next_down, Numbered, dialled, events_of}
+use Rattle.css_world.proofs.Names.{history_of, stored, IsDeclared, played, AreAccepted, cii_of, ts_of, cii-ts, ts-cii}
 use Rattle.css_world.proofs.Carrying.{own_line, one_lane}
 use Rattle.css_world.proofs.Flights.{is-live, heard-one, raised-one, written-one}
 use Rattle.css_world.proofs.Verbs.{quiet, session-played, aside, dialled-aside, wrote-aside, WhenPlayed, WhenAttended}

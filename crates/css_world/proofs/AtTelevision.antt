@@ -2,25 +2,17 @@
 use Rattle.std.proofs.Common.{◌≡◌, ◌≢◌, ◌≤◌, ◌-◌, ◌==◌, ℕ, false, List, ◌∷◌, length, refl, ap, sym, subst, ◌∙◌}
 use Rattle.std.specs.Prelude.{slice_set, Some}
 use Rattle.css_model.specs.declared.Why.TheVariants as why
-use Rattle.css_model.specs.History.{History, Clock, Slept}
-use Rattle.css_num.specs.declared.protocol.Kind.{Kind}
 use Rattle.css_num.specs.declared.protocol.Kind.TheVariants as kind
 use Rattle.css_tv.specs.Stages.{Television as Tv}
-use Rattle.css_tv.specs.declared.event.TvEvent.{TvEvent}
 use Rattle.css_tv.specs.declared.event.TvEvent.TheVariants as event
 use Rattle.css_companion.specs.Standing as companions
-use Rattle.css_companion.specs.Standing.{Companion}
-use Rattle.css_schedule.specs.declared.line.Verb.{Verb}
-use Rattle.css_schedule.specs.declared.line.Verb.TheVariants.{Wall, Print, Programme, Timeline, Viewer, Sleep}
-use Rattle.css_meaning.specs.Sessions.{peer_of}
-use Rattle.css_meaning.specs.Happened.{Numbered, datagrams, done_by, events_of, history_of}
-use Rattle.css_meaning.specs.Numbering.{stored}
-use Rattle.css_meaning.specs.Verdicts.{played}
-use Rattle.css_meaning.proofs.Peers.{cii_of, ts_of, others-peer}
 use Rattle.css_meaning.proofs.Entries.{concerns, received_not}
 use Rattle.css_world.specs.declared.lane.Lane.{Lane}
 use Rattle.css_world.specs.Lanes.{LaneStands, LanesStand, IsPlayed, AllArePlayed, KeepsAllButTexts}
 use Rattle.css_world.specs.Standing.{Kept, EndsStand, IsAtTv}
+use Rattle.css_world.proofs.Names.{History, Clock, Slept, Kind, TvEvent, Companion, Verb, Wall, Print, Programme}
+use Rattle.css_world.proofs.Names.{Timeline, Viewer, Sleep, peer_of, Numbered, datagrams, done_by, events_of}
+use Rattle.css_world.proofs.Names.{history_of, stored, played, cii_of, ts_of, others-peer}
 use Rattle.css_world.proofs.Carrying.{own_line, histories, all_lanes, own_lanes, one_lane}
 use Rattle.css_world.proofs.Delivered.{kept_in_each}
 use Rattle.css_world.proofs.Numbers.{stored_within, stored_same, set_there, set_others}

@@ -1,31 +1,22 @@
 -- What the ends do at a line: they stand for the lines with it.
 use Rattle.std.proofs.Common.{◌≡◌, ◌≢◌, ℕ, suc, ◌-◌, ◌==◌, cond, ◌<◌, ◌≤◌, arith, Bool, true, false, List, [], ◌∷◌}
-use Rattle.std.proofs.Common.{◌++◌, length, refl, ap, sym, ◌∙◌, inl, inr, option_map, ◌&&◌, slice_set, Option}
-use Rattle.std.proofs.Common.{Some, option_to_list, Ok}
+use Rattle.std.proofs.Common.{◌++◌, length, refl, ap, sym, ◌∙◌, inl, inr, option_map, ◌&&◌, slice_set, Option, Some}
+use Rattle.std.proofs.Common.{option_to_list, Ok}
 use Rattle.std.specs.List.{AllByRecursion}
-use Rattle.std.proofs.lemmas.Bool.Decides.{eqb_tells}
 use Rattle.css_model.specs.declared.TheConstants.{LIMIT}
 use Rattle.css_model.specs.declared.Why.TheVariants as why
-use Rattle.css_model.specs.Wire.{encoded, decoded, request_at, stamp_of}
-use Rattle.css_model.specs.History.{History, Clock, Sent}
 use Rattle.css_companion.specs.Standing as companions
-use Rattle.css_companion.specs.Standing.{Companion}
-use Rattle.css_server.specs.Tickets.{Server, Ticket, ticket_for, is_greater}
 use Rattle.css_server.specs.Exchanges as servers
 use Rattle.css_server.specs.Exchanges.{greatest_reading}
-use Rattle.css_schedule.specs.declared.header.Header.{Header}
-use Rattle.css_schedule.specs.declared.line.Verb.{Verb}
-use Rattle.css_schedule.specs.declared.line.Verb.TheVariants.{Ask, Take}
-use Rattle.css_meaning.specs.Happened.{Numbered, requests, askers, tickets, ticket_at, taken_for, datagrams, is_given}
-use Rattle.css_meaning.specs.Happened.{peer, done_by, events_of, history_of}
-use Rattle.css_meaning.specs.Numbering.{numbered, stored}
 use Rattle.css_meaning.proofs.Ends.{history_now, history_other}
-use Rattle.css_meaning.proofs.Made.{mapped_some}
-use Rattle.css_meaning.proofs.Lawful.{request_back}
 use Rattle.css_world.specs.declared.television.Television.{Television}
 use Rattle.css_world.specs.Standing.{Kept, AreStored, request_bytes, owner, open_ticket, EndsStand}
 use Rattle.css_world.specs.Lanes.{LaneStands, LanesStand}
 use Rattle.css_world.specs.declared.lane.Lane.{Lane}
+use Rattle.css_world.proofs.Names.{eqb_tells, encoded, decoded, request_at, stamp_of, History, Clock, Sent, Companion}
+use Rattle.css_world.proofs.Names.{Server, Ticket, ticket_for, is_greater, Header, Verb, Ask, Take, Numbered, requests}
+use Rattle.css_world.proofs.Names.{askers, tickets, ticket_at, taken_for, datagrams, is_given, peer, done_by, events_of}
+use Rattle.css_world.proofs.Names.{history_of, numbered, stored, mapped_some, request_back}
 use Rattle.css_world.proofs.Numbers.{stored_same, set_there, set_others}
 use Rattle.css_world.proofs.Storing.{pushed}
 

@@ -1,25 +1,21 @@
 -- What a television tells by an event is in flight, and is what its sessions were to be told by it.
 use Rattle.std.proofs.Common.{◌≡◌, ℕ, List, [], ◌∷◌, ◌++◌, refl, sym, ap, ap₂, ◌∙◌, append_assoc, filter_map, subst}
 use Rattle.std.proofs.Common.{Result, Ok, Err, filter, map, reverse}
-use Rattle.std.proofs.lemmas.List.{map-append}
 use Rattle.std.proofs.lemmas.List.Elements.{filter-append, filter_map-append}
 use Rattle.css_player.specs.Player.{Player}
 use Rattle.css_player.specs.Events.{player_of}
-use Rattle.css_sessions.specs.declared.session.Said.{Said}
 use Rattle.css_sessions.specs.Kept.{Event as SessionsCall, Kept}
 use Rattle.css_sessions.specs.Told.{IsLawful, said_to, texts_of, sessions_of}
 use Rattle.css_tv.proofs.More.{said_in, texts_all}
 use Rattle.css_tv.specs.Outcomes.{Outcome, outcome, outcome_at, said_after, outs as outcome_outs}
 use Rattle.css_tv.specs.Stages.{Stage}
 use Rattle.css_tv.specs.Standing as tvs
-use Rattle.css_tv.specs.Standing.{Calls, calls_of, with_outcome, said_by}
-use Rattle.css_tv.specs.declared.event.TvEvent.{TvEvent}
-use Rattle.css_tv.specs.declared.event.TvOut.{TvOut}
 use Rattle.css_tv.specs.declared.fault.TvFault.{TvFault}
-use Rattle.css_meaning.specs.Sessions.{addresses, told_to}
 use Rattle.css_world.specs.declared.session.Phase.{Phase}
 use Rattle.css_world.specs.declared.session.Phase.TheVariants.{Unopened, Open, Over}
 use Rattle.css_world.specs.Flights.{Session, grown, with_news, news_of}
+use Rattle.css_world.proofs.Names.{map-append, Said, Calls, calls_of, with_outcome, said_by, TvEvent, TvOut, addresses}
+use Rattle.css_world.proofs.Names.{told_to}
 
 -- ---- texts one after the other
 -- what is told to a peer by two lists

@@ -1,9 +1,8 @@
 -- What is stored, the oldest first, of a list with the newest first.
 use Rattle.std.proofs.Common.{◌≡◌, ◌≢◌, ℕ, suc, zero, arith, List, [], ◌∷◌, ◌++◌, length, refl, ap, sym, subst, ◌∙◌}
 use Rattle.std.proofs.Common.{inl, inr, length-append, length-set, option_map, Option, Some, None, slice_get, slice_set}
-use Rattle.std.proofs.lemmas.Bool.Decides.{eqb_tells}
-use Rattle.css_meaning.specs.Numbering.{numbered, stored, spent}
 use Rattle.css_world.specs.Standing.{AreStored}
+use Rattle.css_world.proofs.Names.{eqb_tells, numbered, stored, spent}
 
 -- ---- options
 -- two functions that are equal map alike

@@ -1,37 +1,15 @@
 -- Whether what a line says can be carried out, and what a session then stands for.
 use Rattle.std.proofs.Common.{◌≡◌, ◌≤◌, ℕ, Bool, true, false, cond, not, List, ◌∷◌, arith, refl, ap, sym, subst, ◌∙◌}
 use Rattle.std.proofs.Common.{◌⊎◌, inl, inr, option_map, ◌&&◌, rules, Option, Some, None, is_some, Result, Ok, Err}
-use Rattle.std.specs.Result.{IsErrAnd}
-use Rattle.std.proofs.lemmas.Result.{err_from_is_err_and}
 use Rattle.css_model.specs.declared.Why.TheVariants as why
-use Rattle.css_model.specs.History.{Entry, History, Clock, Dialled, Wrote}
 use Rattle.css_server.specs.Exchanges as servers
-use Rattle.css_server.specs.Tickets.{Server}
-use Rattle.css_num.specs.declared.protocol.Kind.{Kind}
-use Rattle.css_tsmsg.specs.declared.bound.Bound.{Bound}
 use Rattle.css_tv.specs.Stages.{Television as Tv}
 use Rattle.css_tv.specs.Standing as tvs
-use Rattle.css_tv.specs.Standing.{calls_of}
-use Rattle.css_tv.specs.declared.event.TvEvent.{TvEvent}
 use Rattle.css_tv.specs.declared.event.TvEvent.TheVariants as event
 use Rattle.css_companion.specs.Aside.{IsAside}
 use Rattle.css_companion.specs.Standing as companions
-use Rattle.css_companion.specs.Standing.{Companion}
-use Rattle.css_companion.specs.Steps.{IsEntryOf}
 use Rattle.css_companion.specs.declared.event.CompanionEvent.{CompanionEvent}
 use Rattle.css_companion.proofs.Telling.{stands_aside}
-use Rattle.css_schedule.specs.declared.header.Header.{Header}
-use Rattle.css_schedule.specs.declared.line.Verb.{Verb}
-use Rattle.css_schedule.specs.declared.line.Verb.TheVariants.{Ask, Take, Give, Programme, Timeline, Viewer}
-use Rattle.css_schedule.specs.declared.line.Verb.TheVariants.{Opening, Bring, Up, Present, Close}
-use Rattle.css_meaning.specs.declared.fault.WorldFault.{WorldFault}
-use Rattle.css_meaning.specs.declared.fault.WorldFault.TheVariants.{Absent, Memory}
-use Rattle.css_meaning.specs.Sessions.{addresses, peer_of, is_open, was_opened, heard_from, written_to, received_from}
-use Rattle.css_meaning.specs.Sessions.{told_to, next_down, next_up}
-use Rattle.css_meaning.specs.Happened.{Numbered, tickets, events_of, history_of}
-use Rattle.css_meaning.specs.Verdicts.{can_happen, event_at, played}
-use Rattle.css_meaning.specs.Accepted.{AreAccepted}
-use Rattle.css_meaning.proofs.Peers.{ts_of}
 use Rattle.css_meaning.proofs.Dialled.{open_was, unwritten, untold}
 use Rattle.css_world.specs.declared.lane.Lane.{Lane}
 use Rattle.css_world.specs.declared.session.Phase.TheVariants as phases
@@ -39,6 +17,12 @@ use Rattle.css_model.specs.declared.Kind.TheVariants as session
 use Rattle.css_world.specs.Flights.{Session, phase_of, opened, closed, first_in, SessionCarries, SessionStands, HasNews}
 use Rattle.css_world.specs.Lanes.{LanesStand, AllArePlayed, IsDialled}
 use Rattle.css_world.specs.Standing.{Kept, EndsStand, IsAtTv, carried, Carries}
+use Rattle.css_world.proofs.Names.{IsErrAnd, err_from_is_err_and, Entry, History, Clock, Dialled, Wrote, Server, Kind}
+use Rattle.css_world.proofs.Names.{Bound, calls_of, TvEvent, Companion, IsEntryOf, Header, Verb, Ask, Take, Give}
+use Rattle.css_world.proofs.Names.{Programme, Timeline, Viewer, Opening, Bring, Up, Present, Close, WorldFault, Absent}
+use Rattle.css_world.proofs.Names.{Memory, addresses, peer_of, is_open, was_opened, heard_from, written_to}
+use Rattle.css_world.proofs.Names.{received_from, told_to, next_down, next_up, Numbered, tickets, events_of, history_of}
+use Rattle.css_world.proofs.Names.{can_happen, event_at, played, AreAccepted, ts_of}
 use Rattle.css_world.proofs.Carrying.{own_line, histories}
 use Rattle.css_world.proofs.Flights.{opened-ok, opened-err, closed-ok, closed-err, is-live, first-down, first-up}
 use Rattle.css_world.proofs.Flights.{told-more, opened-now, closed-now}

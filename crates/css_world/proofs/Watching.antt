@@ -2,27 +2,19 @@
 use Rattle.std.proofs.Common.{◌≡◌, ◌≢◌, ◌-◌, ◌&&◌, ◌||◌, ℕ, Bool, true, false, cond, List, [], ◌∷◌, length, arith}
 use Rattle.std.proofs.Common.{length-set, ne_eqb, refl, ap, sym, subst, ◌∙◌, inl, inr, Option, Some, None, Result, Ok}
 use Rattle.std.proofs.Common.{Err, slice_set, is_none, option_map, eq-eqb}
-use Rattle.std.specs.Option.{option_or}
-use Rattle.std.specs.Result.{result_and, result_map_both}
-use Rattle.std.proofs.lemmas.Bool.Decides.{eqb_tells}
 use Rattle.css_model.specs.Numbers.{precision_ns}
 use Rattle.css_moments.specs.Drifts.{verdict}
 use Rattle.css_moments.specs.Standing as drifts
 use Rattle.css_moments.specs.Standing.{Drift}
-use Rattle.css_schedule.specs.Owners.{is_sleep}
-use Rattle.css_schedule.specs.declared.header.Header.{Header}
-use Rattle.css_meaning.specs.declared.fault.WorldFault.{WorldFault}
-use Rattle.css_meaning.specs.declared.reading.Reading.{Reading}
 use Rattle.css_meaning.specs.Clocks.{Seen, last_reading, has_woken, read_verdict, reading_verdict, shown_at, told_by}
 use Rattle.css_meaning.specs.Clocks.{told_with, broken_by, clock_verdict}
-use Rattle.css_meaning.specs.Happened.{Numbered}
-use Rattle.css_meaning.specs.Numbering.{stored}
-use Rattle.css_meaning.specs.Verdicts.{tv_seen, own_seen, tv_reading, own_reading, seen_of_tv, seen_of, local_of}
-use Rattle.css_meaning.specs.Verdicts.{own_shown_tested, shown_tested, reading_tested}
-use Rattle.css_meaning.proofs.Worlds.{seen_own, seen_other}
+use Rattle.css_meaning.specs.Verdicts.{local_of}
 use Rattle.css_world.specs.declared.clocks.Clocks.{Clocks}
 use Rattle.css_world.specs.declared.watch.Watch.{Watch}
 use Rattle.css_world.specs.Standing.{WatchStands, ClocksStand}
+use Rattle.css_world.proofs.Names.{option_or, result_and, result_map_both, eqb_tells, is_sleep, Header, WorldFault}
+use Rattle.css_world.proofs.Names.{Reading, Numbered, stored, tv_seen, own_seen, tv_reading, own_reading, seen_of_tv}
+use Rattle.css_world.proofs.Names.{seen_of, own_shown_tested, shown_tested, reading_tested, seen_own, seen_other}
 use Rattle.css_world.proofs.Numbers.{each_written, stored_within}
 
 -- ---- one watch

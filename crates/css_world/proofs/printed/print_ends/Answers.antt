@@ -1,8 +1,6 @@
 -- The pieces of the line, one after the other.
 use Rattle.std.proofs.Common.{◌≡◌, ℕ, ℤ, List, [], ◌∷◌, ◌++◌, append_assoc, to_z, of_z, codes, decimal}
-use Rattle.std.specs.Fmt.{signed_decimal}
-use Rattle.std.specs.Int.{w128}
-use Rattle.std.proofs.lemmas.Int.{to_z-of_z}
+use Rattle.css_world.proofs.Names.{signed_decimal, w128, to_z-of_z}
 use Rattle.css_world.proofs.Appending.{begins, on_ok, on_err, at_err}
 use Rattle.css_world.proofs.printed.print_ends.Goals as goal
 use Rattle.css_world.proofs.printed.print_ends.Given as given

@@ -1,8 +1,6 @@
 -- The line of the wall clock's span is a span's line.
 use Rattle.std.proofs.Common.{◌≡◌, ℕ, ℤ, List, ◌++◌, to_z, of_z, codes, decimal}
-use Rattle.std.specs.Int.{w128}
-use Rattle.std.proofs.lemmas.Int.{to_z-of_z}
-use Rattle.css_meaning.specs.Printed.{ends_line, wall_line}
+use Rattle.css_world.proofs.Names.{w128, to_z-of_z, ends_line, wall_line}
 use Rattle.css_world.proofs.Appending.{on_ok}
 use Rattle.css_world.proofs.printed.print_span.Goals as goal
 

@@ -1,10 +1,8 @@
 -- A text of the television comes.
 use Rattle.std.proofs.Common.{refl, sym, ap, subst, ◌∙◌, None}
-use Rattle.css_companion.specs.Standing.{Companion}
-use Rattle.css_companion.specs.Steps.{owed, IsEvent}
-use Rattle.css_schedule.specs.declared.line.Verb.TheVariants.{Bring}
 use Rattle.css_world.specs.Lanes.{session_at, with_owed}
 use Rattle.css_world.specs.Standing.{Kept, kept}
+use Rattle.css_world.proofs.Names.{Companion, owed, IsEvent, Bring}
 use Rattle.css_world.proofs.Carrying.{at_line}
 use Rattle.css_world.proofs.Verbs.{wants, refuses-absent, carried-when, can-bring, cannot-bring}
 use Rattle.css_world.proofs.AtSessions.{stands_at, owes-none, heard_event, brings}

@@ -1,14 +1,9 @@
 -- A session closes at both ends.
+use Rattle.css_world.proofs.Names.{owed, IsEvent, Close, WorldFault, events_of, peer_of, played}
 use Rattle.css_world.proofs.Verbs.{WhenAttended}
 use Rattle.std.specs.Prelude.{slice_set}
 use Rattle.std.proofs.Common.{◌≡◌, ◌-◌, refl, sym, ap, subst, ◌∙◌, Some, None, Ok, Result, ℕ}
 use Rattle.css_tv.specs.declared.event.TvEvent.TheVariants as event
-use Rattle.css_companion.specs.Steps.{owed, IsEvent}
-use Rattle.css_schedule.specs.declared.line.Verb.TheVariants.{Close}
-use Rattle.css_meaning.specs.declared.fault.WorldFault.{WorldFault}
-use Rattle.css_meaning.specs.Happened.{events_of}
-use Rattle.css_meaning.specs.Sessions.{peer_of}
-use Rattle.css_meaning.specs.Verdicts.{played}
 use Rattle.css_world.specs.Lanes.{session_at, with_owed}
 use Rattle.css_world.specs.Standing.{Kept, kept}
 use Rattle.css_world.proofs.Carrying.{at_line}

@@ -2,13 +2,9 @@
 use Rattle.std.specs.Prelude.{slice_set}
 use Rattle.std.proofs.Common.{◌≡◌, ◌-◌, refl, sym, ap, ◌∙◌, Some, Ok, Result, ℕ, subst}
 use Rattle.css_tv.specs.declared.event.TvEvent.TheVariants as event
-use Rattle.css_schedule.specs.declared.line.Verb.TheVariants.{Opening}
-use Rattle.css_meaning.specs.declared.fault.WorldFault.{WorldFault}
-use Rattle.css_meaning.specs.Happened.{events_of}
-use Rattle.css_meaning.specs.Sessions.{peer_of}
-use Rattle.css_meaning.specs.Verdicts.{played}
 use Rattle.css_world.specs.Lanes.{session_at}
 use Rattle.css_world.specs.Standing.{Kept, kept}
+use Rattle.css_world.proofs.Names.{Opening, WorldFault, events_of, peer_of, played}
 use Rattle.css_world.proofs.Carrying.{at_line}
 use Rattle.css_world.proofs.Verbs.{wants, refuses-as, refuses-played, carried-when, can-open, cannot-open, WhenPlayed}
 use Rattle.css_world.proofs.AtSessions.{stands_at, no-session, opens_at}
