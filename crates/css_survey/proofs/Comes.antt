@@ -2,18 +2,15 @@
 use Rattle.std.proofs.Common.{◌≡◌, ℕ, suc, ◌+◌, ◌-◌, ◌<◌, ◌≤◌, arith, ap, sym, subst, refl, Bool, true, false, List, []}
 use Rattle.std.proofs.Common.{◌∷◌, length}
 use Rattle.std.specs.Prelude.{Option, Some, None, IfSome, Ok, All, ◌==◌, ⊤, reverse, slice_index}
-use Rattle.std.proofs.lemmas.Bool.{eq-eqb, ne_eqb, eqb-false, lt-ltb}
-use Rattle.std.proofs.lemmas.List.Elements.{All-nil, All-cons, All-head, All-tail, All-weaker}
+use Rattle.std.proofs.lemmas.Bool.{eq-eqb, ne_eqb, lt-ltb}
 use Rattle.css_server.specs.Tickets.{Ticket, is_greater, greatest_with}
 use Rattle.css_server.specs.Exchanges.{greatest_reading}
-use Rattle.css_schedule.specs.declared.line.Verb.{Verb}
-use Rattle.css_schedule.specs.declared.line.Verb.TheVariants.{Ask, Take, Give, Land, Print, Sleep}
-use Rattle.css_meaning.specs.Numbering.{numbered}
 use Rattle.css_meaning.specs.Happened as happened
-use Rattle.css_meaning.specs.Happened.{Numbered, requests, tickets, taken_for, made_for, is_given}
-use Rattle.css_meaning.specs.Verdicts.{carried_out, printed_for}
 use Rattle.css_gen.specs.Crowd.{senders_after, askers_after}
 use Rattle.css_survey.specs.Generated.{header_for}
+use Rattle.css_survey.proofs.Names.{eqb-false, All-nil, All-cons, All-head, All-tail, All-weaker, Verb, Ask, Take, Give}
+use Rattle.css_survey.proofs.Names.{Land, Print, Sleep, numbered, Numbered, requests, tickets, taken_for, made_for}
+use Rattle.css_survey.proofs.Names.{is_given, carried_out, printed_for}
 use Rattle.css_survey.proofs.MadeOf.{made_of, made_of-more, numbered-reverse, reverse-more, length-more}
 
 -- an item of that number, of which this holds

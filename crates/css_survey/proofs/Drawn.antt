@@ -1,18 +1,14 @@
 -- Whatever is drawn, what a generated line says can happen.
 use Rattle.std.proofs.Common.{◌≡◌, ℕ, ◌-◌, ◌*◌, ◌≤◌, arith, refl, Bool, true, false, List, length}
 use Rattle.std.specs.Prelude.{All, ◌==◌, nat_lt, min, if◌then◌else◌, replicate}
-use Rattle.std.proofs.lemmas.Bool.{eqb-false, ltb-false}
-use Rattle.std.proofs.lemmas.Bool.Decides.{nat_tests}
-use Rattle.std.proofs.lemmas.List.{length-replicate, get_or-replicate, replicate_more}
-use Rattle.std.proofs.lemmas.List.Elements.{All-get_or}
 use Rattle.css_gen.specs.Draws.{draw}
 use Rattle.css_gen.specs.Course.{Happening, asked, taken, taken_back, given, given_next, landed, landed_back, printed}
 use Rattle.css_gen.specs.Course.{chosen, happening, tv_clock, own_clock}
-use Rattle.css_gen.specs.Crowd.{turn, datagrams, landed_from, landed_of, slept, chosen_of, happening_of}
-use Rattle.css_gen.specs.Crowd.{senders_after, askers_after}
-use Rattle.css_gen.specs.declared.course.Course.{Course}
-use Rattle.css_gen.specs.declared.crowd.Crowd.{Crowd}
+use Rattle.css_gen.specs.Crowd.{turn, datagrams, landed_from, landed_of, slept, chosen_of, happening_of, senders_after}
+use Rattle.css_gen.specs.Crowd.{askers_after}
 use Rattle.css_gen.proofs.Draws.{draw-below}
+use Rattle.css_survey.proofs.Names.{eqb-false, ltb-false, nat_tests, length-replicate, get_or-replicate, replicate_more}
+use Rattle.css_survey.proofs.Names.{All-get_or, Course, Crowd}
 use Rattle.css_survey.proofs.MadeOf.{IsFor, datagrams-for, all-for}
 use Rattle.css_survey.proofs.Comes.{Comes, given_after}
 

@@ -2,32 +2,21 @@
 use Rattle.std.proofs.Common.{◌≡◌, ◌≢◌, ℕ, suc, zero, ◌+◌, ◌-◌, ◌*◌, ◌/◌, ◌%◌, ◌<◌, ◌≤◌, arith, ap, sym, subst, ◌∙◌}
 use Rattle.std.proofs.Common.{refl, Bool, true, false, List, [], ◌∷◌, length, le-ltb, lt-ltb, le-leb, eqb-true, Option}
 use Rattle.std.proofs.Common.{Some, None, IfSome, unwrap_or, Result, Ok, codes, ◌==◌, nat_lt, if◌then◌else◌}
-use Rattle.std.specs.Result.{result_and}
-use Rattle.std.proofs.lemmas.List.{length-replicate}
-use Rattle.std.proofs.lemmas.List.Elements.{All-nil}
 use Rattle.css_num.specs.declared.protocol.Kind.TheVariants.{Cii, Ts}
 use Rattle.css_tsmsg.specs.Setups.{IsUtf8Setup, setup_text, setup_of as setup_read}
 use Rattle.css_tsmsg.proofs.ReadBack.{setup_reads}
-use Rattle.css_schedule.specs.Ranges.{IsLine, IsSecond}
-use Rattle.css_schedule.specs.declared.line.Line.{Line}
-use Rattle.css_schedule.specs.declared.line.Verb.{Verb}
-use Rattle.css_schedule.specs.declared.line.Verb.TheVariants.{Opening, Bring, Up}
-use Rattle.css_meaning.specs.declared.fault.WorldFault.{WorldFault}
-use Rattle.css_meaning.specs.Sessions.{setup_of}
-use Rattle.css_meaning.specs.Happened.{Numbered, events_of}
-use Rattle.css_meaning.specs.Verdicts.{tv_reading, own_reading, shown_tested, reading_tested, tested, carried_out}
-use Rattle.css_meaning.specs.Verdicts.{line_meant}
 use Rattle.css_meaning.specs.Accepted.{AreAccepted, IsNext}
 use Rattle.css_meaning.proofs.Ends.{history_other}
-use Rattle.css_gen.specs.Opening.{pts, companion, opening_verb, opening_line}
+use Rattle.css_gen.specs.Opening.{opening_verb}
 use Rattle.css_gen.specs.Second.{clock_line, line_placed, openings, second_line}
 use Rattle.css_gen.specs.Generated.{line_numbered}
-use Rattle.css_gen.specs.Standing.{AreSome}
-use Rattle.css_gen.proofs.Clocks.{clock-start}
 use Rattle.css_gen.proofs.Crowds.{crowd-companions}
-use Rattle.css_gen.proofs.Ranges.{pts-utf8, stem-utf8, opening-range}
 use Rattle.css_gen.proofs.CrowdRanges.{placed-range, placed-second}
 use Rattle.css_survey.specs.Generated.{header_for, heading, line_for, generated}
+use Rattle.css_survey.proofs.Names.{result_and, length-replicate, All-nil, IsLine, IsSecond, Line, Verb, Opening, Bring}
+use Rattle.css_survey.proofs.Names.{Up, WorldFault, setup_of, Numbered, events_of, tv_reading, own_reading}
+use Rattle.css_survey.proofs.Names.{shown_tested, reading_tested, tested, carried_out, line_meant, pts, companion}
+use Rattle.css_survey.proofs.Names.{opening_line, AreSome, clock-start, pts-utf8, stem-utf8, opening-range}
 use Rattle.css_survey.proofs.Accepting.{Holds}
 use Rattle.css_survey.proofs.Comes.{AreExchanged, IsTicket, is_idle, still}
 use Rattle.css_survey.proofs.Generating.{of-one}

@@ -1,38 +1,27 @@
 -- A survey counts what is told at the lines of a schedule.
 use Rattle.std.proofs.Common.{◌≡◌, ℕ, suc, zero, ◌+◌, ◌-◌, ◌<◌, ◌≤◌, arith, ap, sym, subst, ◌∙◌, refl, List, [], ◌∷◌}
 use Rattle.std.proofs.Common.{◌++◌, length, option_to_list, eq-eqb, Option, Some, None, Result, Ok, Err, OnOk}
-use Rattle.std.proofs.lemmas.List.{append_assoc}
 use Rattle.css_model.specs.History.{History}
-use Rattle.css_model.specs.WallClock.{Local}
 use Rattle.css_companion.specs.Meanings.{report_after}
 use Rattle.css_companion.specs.Standing as companions
 use Rattle.css_companion.specs.Standing.{Companion, own_of}
 use Rattle.css_companion.specs.declared.report.Report.{Report}
 use Rattle.css_companion.specs.declared.report.Report.TheVariants as reports
-use Rattle.css_schedule.specs.Owners.{is_own}
-use Rattle.css_schedule.specs.Ranges.{IsHeader, IsCount}
-use Rattle.css_schedule.specs.declared.header.Header.{Header}
-use Rattle.css_schedule.specs.declared.line.Line.{Line}
-use Rattle.css_schedule.specs.declared.line.Verb.{Verb}
-use Rattle.css_schedule.specs.declared.line.Verb.TheVariants.{Print}
 use Rattle.css_tsmsg.specs.declared.setup.Setup.{Setup}
-use Rattle.css_meaning.specs.Happened.{Numbered, history_of}
 use Rattle.css_meaning.specs.Clocks.{last_reading, has_woken, least_next}
-use Rattle.css_meaning.specs.Sessions.{setup_of}
 use Rattle.css_meaning.specs.Accepted.{AreAccepted, IsNext}
 use Rattle.css_meaning.specs.Truth.{IsCompanionOf}
-use Rattle.css_meaning.specs.Verdicts.{local_of, seen_of, report_at}
 use Rattle.css_world.specs.Asked.{MayBeAsked}
 use Rattle.css_world.specs.Standing as worlds
 use Rattle.css_world.specs.Standing.{World}
-use Rattle.css_gen.specs.Standing.{AreSome}
-use Rattle.std.proofs.lemmas.Bool.Decides.{nat_tests}
 use Rattle.css_survey.specs.Generated.{header_for, heading, line_for, numbered_for, generated}
 use Rattle.css_survey.specs.declared.surveyor.Surveyor.{Surveyor}
 use Rattle.css_survey.specs.declared.summary.Summary.{Summary}
 use Rattle.css_survey.specs.Surveyed.{Told, asked_by, told_at, told_of, told_in, counted, counted_with, none_told}
 use Rattle.css_survey.specs.Surveyed.{summary_of}
 use Rattle.css_survey.specs.Surveys.{Stands, HasTaken}
+use Rattle.css_survey.proofs.Names.{append_assoc, Local, is_own, IsHeader, IsCount, Header, Line, Verb, Print, Numbered}
+use Rattle.css_survey.proofs.Names.{history_of, setup_of, local_of, seen_of, report_at, AreSome, nat_tests}
 use Rattle.css_survey.proofs.Accepted.{generated_accepted}
 
 -- ---- one report

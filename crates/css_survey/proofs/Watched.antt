@@ -1,17 +1,14 @@
 -- The tests of a clock pass on lines that show it as the generator does.
 use Rattle.std.proofs.Common.{◌≡◌, ℕ, ◌+◌, ◌<◌, ◌≤◌, arith, ap, sym, subst, ◌∙◌, refl, Bool, true, false, List, [], ◌∷◌}
 use Rattle.std.specs.Prelude.{Option, Some, None, IfSome, Result, Ok, All}
-use Rattle.std.specs.Result.{result_and, result_map_both}
-use Rattle.std.proofs.lemmas.Bool.Decides.{nat_tests}
-use Rattle.std.proofs.lemmas.List.Elements.{All-nil, All-cons, All-head, All-tail, All-weaker}
 use Rattle.css_moments.specs.Drifts.{Shown, Told, Keeps, verdict, last_shown, shown_lately, IsAccepted, IsNext}
 use Rattle.css_moments.proofs.Pairs.{accepts_exactly}
-use Rattle.css_meaning.specs.declared.fault.WorldFault.{WorldFault}
 use Rattle.css_meaning.specs.declared.reading.Reading.{Reading}
 use Rattle.css_meaning.specs.Clocks.{Seen, shown_at, told_with, told_by, broken_by, clock_verdict, last_reading}
 use Rattle.css_meaning.specs.Clocks.{near_verdict, order_verdict, reading_verdict}
 use Rattle.css_gen.specs.Course.{clock}
-use Rattle.css_gen.proofs.Clocks.{clock-keeps, clock-rises, clock-goes_on}
+use Rattle.css_survey.proofs.Names.{result_and, result_map_both, nat_tests, All-nil, All-cons, All-head, All-tail}
+use Rattle.css_survey.proofs.Names.{All-weaker, WorldFault, clock-keeps, clock-rises, clock-goes_on}
 
 -- What a line tells of a clock: it shows what this clock shows, at a true time no later than this one, and a reading is
 -- what it shows.
