@@ -1,34 +1,21 @@
 -- A replay of a migrated schedule says the same as one of the schedule, line after line.
 use Rattle.std.proofs.Common.{◌≡◌, ℕ, ◌+◌, ◌*◌, ◌≤◌, arith, ap, sym, subst, ◌∙◌, refl, List, [], ◌∷◌, ◌++◌, length, map}
 use Rattle.std.proofs.Common.{append_assoc, append-nil, Option, Some, None, Result, Ok, Err, eq-eqb, option_map}
-use Rattle.std.specs.Result.{result_map_both}
-use Rattle.std.proofs.lemmas.List.{length-append}
-use Rattle.std.proofs.lemmas.List.Concat.{flat_map-append}
-use Rattle.css_lines.specs.Lines.{whole_lines, last_part}
 use Rattle.css_lines.specs.Meaning.{Outcome, accepted, followed_from, followed_by, offset, reader_outcome, line_outcome}
 use Rattle.css_lines.specs.Meaning.{finish_outcome, outcome}
-use Rattle.css_lines.specs.declared.reader.Refusal.{Refusal}
-use Rattle.css_schedule.specs.declared.fault.LineFault.{LineFault}
-use Rattle.css_schedule.specs.declared.header.CompanionLine.{CompanionLine}
-use Rattle.css_schedule.specs.declared.header.Header.{Header}
-use Rattle.css_schedule.specs.declared.header.Start.{Start}
-use Rattle.css_schedule.specs.declared.header.Start.TheVariants.{One, Two}
-use Rattle.css_schedule.specs.declared.line.Line.{Line}
-use Rattle.css_schedule.specs.Headers.{header_of, companion_of}
 use Rattle.css_schedule.specs.Lines.{line_of, line_in}
-use Rattle.css_migrate.specs.Migrated.{fed, line_turned, header_turned, header_becomes, line_becomes, text_becomes}
-use Rattle.css_migrate.specs.Migrated.{migrated}
 use Rattle.css_migrate.specs.declared.migrate.NoLine.{NoLine}
-use Rattle.css_meaning.specs.Happened.{Numbered}
 use Rattle.css_meaning.specs.Verdicts.{line_meant}
-use Rattle.css_meaning.specs.declared.fault.WorldFault.{WorldFault}
 use Rattle.css_meaning.specs.declared.fault.WorldFault.TheVariants as world
 use Rattle.css_replay.specs.declared.reader.Cause.{Cause}
 use Rattle.css_replay.specs.Replayed.{Extent, Running, caused, ended_at, longest_input, longest_line, reached, replayed}
 use Rattle.css_replay.specs.Replayed.{started, next_companion}
-use Rattle.css_replay.proofs.Texts.{reached-push}
 use Rattle.css_laws.specs.Numbers.{raised_lines, raised_fault, Said, said_text, MeanAlike}
 use Rattle.css_laws.specs.Raised.{IsRaised, raised_verdict, said_texts, raised_texts, MigratedSchedulesAreReplayedAlike}
+use Rattle.css_laws.proofs.Names.{result_map_both, length-append, flat_map-append, whole_lines, last_part, Refusal}
+use Rattle.css_laws.proofs.Names.{LineFault, CompanionLine, Header, Start, One, Two, Line, header_of, companion_of, fed}
+use Rattle.css_laws.proofs.Names.{line_turned, header_turned, header_becomes, line_becomes, text_becomes, migrated}
+use Rattle.css_laws.proofs.Names.{Numbered, WorldFault, reached-push}
 use Rattle.css_laws.proofs.Raising.{numbers_raised}
 use Rattle.css_laws.proofs.Runs.{with_feed, steps_of, ran, outcome-ran, joined, AreFree, joined-ran, both-accepted}
 use Rattle.css_laws.proofs.Runs.{AreFreeSteps, input-free, IsTaken, line-taken, offset-push, within, not-long}

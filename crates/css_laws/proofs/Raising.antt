@@ -1,7 +1,6 @@
 -- What becomes of a line depends on lines' numbers only where it names them.
 use Rattle.std.proofs.Common.{◌≡◌, ℕ, ◌+◌, ap, sym, ◌∙◌, refl, Bool, true, false, cond, List}
 use Rattle.std.specs.Prelude.{◌&&◌, Option, Some, None, Result, Ok, Err}
-use Rattle.std.specs.Result.{result_and, result_map_both}
 use Rattle.css_model.specs.History.{accepted_answers}
 use Rattle.css_span.specs.WallSpans.{wall_span}
 use Rattle.css_player.specs.declared.command.PlayerFault.{PlayerFault}
@@ -10,18 +9,14 @@ use Rattle.css_tv.specs.declared.event.TvEvent.{TvEvent}
 use Rattle.css_tv.specs.declared.fault.TvFault.{TvFault}
 use Rattle.css_tv.specs.declared.fault.TvFault.TheVariants as tv
 use Rattle.css_companion.specs.Meanings.{report_after, assigned_after}
-use Rattle.css_schedule.specs.declared.header.Header.{Header}
-use Rattle.css_schedule.specs.declared.line.Line.{Line}
-use Rattle.css_schedule.specs.declared.line.Verb.{Verb}
-use Rattle.css_schedule.specs.declared.line.Verb.TheVariants.{Take, Give, Land, Wall, Print}
-use Rattle.css_meaning.specs.declared.fault.WorldFault.{WorldFault}
 use Rattle.css_meaning.specs.declared.fault.WorldFault.TheVariants.{Absent, Player}
 use Rattle.css_meaning.specs.Sessions.{setup_of}
-use Rattle.css_meaning.specs.Happened.{Numbered, event_by, Ends, ends_of}
 use Rattle.css_meaning.specs.Verdicts.{local_of, tested, can_exchange, can_talk, refused_by, outcome_after, played}
 use Rattle.css_meaning.specs.Verdicts.{printed_for}
 use Rattle.css_laws.specs.Numbers.{raised_line, raised_lines, raised_fault, Said, Nothing, Span, Reported, said_text}
 use Rattle.css_laws.specs.Numbers.{NumbersDontMatter}
+use Rattle.css_laws.proofs.Names.{result_and, result_map_both, Header, Line, Verb, Take, Give, Land, Wall, Print}
+use Rattle.css_laws.proofs.Names.{WorldFault, Numbered, event_by, Ends, ends_of}
 use Rattle.css_laws.proofs.Readings.{raised_test, both-raised, requests-raised, tickets-raised, made_for-raised}
 use Rattle.css_laws.proofs.Readings.{is_given-raised, ends-raised, tested-raised}
 

@@ -4,17 +4,13 @@ use Rattle.std.proofs.Common.{◌≡◌, ℕ, ◌<◌, arith, ap, sym, ◌∙◌
 use Rattle.std.proofs.Common.{Some, None, Result, Ok, Err, IfOk, bytes_eq, codes, lt-ltb}
 use Rattle.std.proofs.lemmas.Slice.Eq.{bytes_eq-Decides}
 use Rattle.css_num.specs.Words.{whole_number_of}
-use Rattle.css_model.specs.declared.TheConstants.{LIMIT}
-use Rattle.css_schedule.proofs.Steps.{Front, pass, after_whole, ok-range}
-use Rattle.css_schedule.specs.declared.fault.LineFault.{LineFault}
 use Rattle.css_schedule.specs.declared.fault.LineFault.TheVariants.{Form}
-use Rattle.css_schedule.specs.declared.line.Line.{Line}
-use Rattle.css_schedule.specs.declared.line.Verb.{Verb}
-use Rattle.css_schedule.specs.declared.line.Verb.TheVariants.{Sleep}
-use Rattle.css_schedule.specs.Words.{◌>>=◌, At, or_form, number_at, all_read}
+use Rattle.css_schedule.specs.Words.{◌>>=◌, number_at}
 use Rattle.css_schedule.specs.Lines as lines
 use Rattle.css_schedule.specs.Lines.{time_at, verb_at, second_verb_at, operands_at, timelines_at, session_at, viewer_at}
 use Rattle.css_schedule.specs.Lines.{command_at, line_of_words}
+use Rattle.css_laws.proofs.Names.{LIMIT, Front, pass, after_whole, ok-range, LineFault, Line, Verb, Sleep, At, or_form}
+use Rattle.css_laws.proofs.Names.{all_read}
 
 -- ---- one word
 -- one word is read, whatever follows it

@@ -4,18 +4,12 @@ use Rattle.std.proofs.Common.{ℕ, ◌≤◌, ◌+◌, ap, ◌∙◌, refl, Bool
 use Rattle.std.proofs.lemmas.Slice.Eq.{bytes_eq-Decides}
 use Rattle.css_num.specs.Words.{signed_number_of}
 use Rattle.css_model.specs.Numbers.{max_error}
-use Rattle.css_schedule.proofs.Steps.{Front, pass, after_whole, where_true}
-use Rattle.css_schedule.specs.declared.fault.LineFault.{LineFault}
 use Rattle.css_schedule.specs.declared.fault.LineFault.TheVariants.{Form}
-use Rattle.css_schedule.specs.declared.header.CompanionLine.{CompanionLine}
-use Rattle.css_schedule.specs.declared.header.Header.{Header}
-use Rattle.css_schedule.specs.declared.header.Start.{Start}
-use Rattle.css_schedule.specs.declared.header.Start.TheVariants.{One, Two}
-use Rattle.css_schedule.specs.Words.{words_of, ◌>>=◌, At, or_form, word_at, number_at, integer_at, signed_at}
-use Rattle.css_schedule.specs.Words.{after_word, all_read}
-use Rattle.css_schedule.specs.Headers.{mode_of, mode_at, declared_at, local_at, companion_of_words, count_at}
-use Rattle.css_schedule.specs.Headers.{header_with, first_of_words, second_of_words, start_of, header_of_words}
-use Rattle.css_schedule.specs.Headers.{after_number, numbered_of_words, with_companion}
+use Rattle.css_schedule.specs.Words.{◌>>=◌, number_at, integer_at, signed_at, after_word}
+use Rattle.css_schedule.specs.Headers.{mode_at, declared_at, local_at, companion_of_words, count_at, first_of_words}
+use Rattle.css_schedule.specs.Headers.{second_of_words, start_of, header_of_words, after_number, numbered_of_words}
+use Rattle.css_laws.proofs.Names.{Front, pass, after_whole, where_true, LineFault, CompanionLine, Header, Start, One}
+use Rattle.css_laws.proofs.Names.{Two, words_of, At, or_form, word_at, all_read, mode_of, header_with, with_companion}
 use Rattle.css_laws.proofs.Read.{IsWord, one-word, number-word, itself, one-read}
 
 -- ---- the television

@@ -4,13 +4,8 @@ use Rattle.std.proofs.Common.{inl, inr, ltb, List, [], ◌∷◌, ◌++◌, ℤ,
 use Rattle.std.proofs.Common.{decimal, ne_eqb}
 use Rattle.std.specs.Fmt.{signed_decimal, digits, digits_onto, digit_glyph}
 use Rattle.std.proofs.lemmas.List.{append_assoc}
-use Rattle.std.proofs.lemmas.List.Elements.{All-nil, All-cons, All-append, All-weaker}
-use Rattle.std.proofs.lemmas.List.Splits.{slice_split_at}
 use Rattle.css_num.specs.Spans.{Interval}
 use Rattle.css_num.proofs.Numerals.{number_of-decimal}
-use Rattle.css_lines.specs.Lines.{is_feed}
-use Rattle.css_lines.specs.Progress.{HasNoFeed}
-use Rattle.css_schedule.specs.Words.{is_space, words_of}
 use Rattle.css_tsmsg.specs.Names.{json_name}
 use Rattle.css_tsmsg.specs.declared.name.TsName.{TsName}
 use Rattle.css_tsmsg.specs.declared.name.TsName.TheVariants.{ContentIdStem}
@@ -22,6 +17,8 @@ use Rattle.css_companion.specs.declared.report.Cause.TheVariants as cause
 use Rattle.css_companion.specs.declared.report.Report.{Report}
 use Rattle.css_companion.specs.declared.report.Report.TheVariants as report
 use Rattle.css_laws.specs.Numbers.{IsReadOff, NumbersAreReadOff, Nothing, Span, Reported}
+use Rattle.css_laws.proofs.Names.{All-nil, All-cons, All-append, All-weaker, slice_split_at, is_feed, HasNoFeed}
+use Rattle.css_laws.proofs.Names.{is_space, words_of}
 use Rattle.css_laws.proofs.Runs.{free-by}
 
 -- ---- digits

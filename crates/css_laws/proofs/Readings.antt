@@ -2,23 +2,20 @@
 use Rattle.std.proofs.Common.{◌≡◌, ℕ, ◌+◌, refl, arith, Bool, true, false, List, [], ◌∷◌}
 use Rattle.std.specs.Prelude.{Option, Some, None, map, ℤ, neg_ℤ, Result, Ok, Err}
 use Rattle.std.specs.Option.{option_map, option_or}
-use Rattle.std.specs.Result.{result_and, result_map_both}
 use Rattle.css_model.specs.WallClock.{lesser}
 use Rattle.css_moments.specs.Drifts.{Shown, Told, Showed, Slept, last_shown, shown_lately, excess, worst, time_verdict}
 use Rattle.css_moments.specs.Drifts.{drift_verdict, verdict}
 use Rattle.css_moments.specs.declared.fault.DriftFault.{DriftFault}
 use Rattle.css_moments.specs.declared.fault.DriftFault.TheVariants as drifts
-use Rattle.css_schedule.specs.declared.header.Header.{Header}
-use Rattle.css_meaning.specs.Happened.{Numbered, requests, askers, tickets, taken_for, datagrams, made_for, is_given}
-use Rattle.css_meaning.specs.Happened.{ends_of}
 use Rattle.css_model.specs.Numbers.{precision_ns}
 use Rattle.css_meaning.specs.Verdicts.{local_of, tv_reading, own_reading, own_shown_tested, shown_tested}
 use Rattle.css_meaning.specs.Verdicts.{reading_tested, tested, tv_seen, own_seen, seen_of_tv, seen_of}
 use Rattle.css_meaning.specs.Clocks.{Seen, shown_at, told_with, told_by, broken_by, clock_verdict, last_reading}
 use Rattle.css_meaning.specs.Clocks.{has_woken, near_verdict, order_verdict, reading_verdict}
 use Rattle.css_meaning.specs.declared.reading.Reading.{Reading}
-use Rattle.css_meaning.specs.declared.fault.WorldFault.{WorldFault}
 use Rattle.css_laws.specs.Numbers.{raised_line, raised_lines, raised_fault}
+use Rattle.css_laws.proofs.Names.{result_and, result_map_both, Header, Numbered, requests, askers, tickets, taken_for}
+use Rattle.css_laws.proofs.Names.{datagrams, made_for, is_given, ends_of, WorldFault}
 
 -- ---- what is told
 abbrev raised_seen : Seen → Seen

@@ -2,18 +2,14 @@
 use Rattle.std.proofs.Common.{◌≡◌, ℕ, ◌+◌, ◌≤◌, ap, sym, subst, ◌∙◌, refl, Bool, true, false, cond, List, [], ◌∷◌, ◌++◌}
 use Rattle.std.proofs.Common.{length, map, append_assoc, append-nil, arith, ltb}
 use Rattle.std.specs.Prelude.{Option, Some, None, Result, Ok, Err, not, ◌||◌}
-use Rattle.std.specs.List.{flat_map, list_all}
-use Rattle.std.proofs.lemmas.List.Elements.{All-nil, All-push, All-weaker}
 use Rattle.std.proofs.lemmas.List.Sums.{AllPass-from_list_all, sum_by_push}
-use Rattle.std.proofs.lemmas.Bool.Decides.{nat_tests}
-use Rattle.css_lines.specs.Lines.{is_feed, whole_lines, last_part}
-use Rattle.css_lines.specs.Progress.{HasNoFeed}
 use Rattle.css_lines.specs.Meaning.{Meaning, Outcome, refused_at, followed_from, followed_by, offset, is_long}
 use Rattle.css_lines.specs.Meaning.{reader_outcome, line_outcome, outcome_from, finish_outcome, end_outcome, outcome}
-use Rattle.css_lines.specs.declared.reader.Refusal.{Refusal}
 use Rattle.css_lines.specs.declared.reader.Refusal.TheVariants.{Long}
 use Rattle.css_lines.proofs.Cut.{whole_lines_is, last_part_is, whole_from, last_from, whole_from-free, last_from-free}
 use Rattle.css_lines.proofs.Meant.{followed_by-assoc}
+use Rattle.css_laws.proofs.Names.{flat_map, list_all, All-nil, All-push, All-weaker, nat_tests, is_feed, whole_lines}
+use Rattle.css_laws.proofs.Names.{last_part, HasNoFeed, Refusal}
 
 -- ---- steps
 -- a line with its line feed
