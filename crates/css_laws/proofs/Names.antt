@@ -1,4 +1,4 @@
--- The names that most lemmas here cite, passed on from one place. Declares nothing.
+-- The names of the crates below that most lemmas here cite, passed on from one place. Declares nothing.
 pub use Rattle.std.proofs.lemmas.Bool.Decides.{nat_tests}
 pub use Rattle.std.proofs.lemmas.List.{length-append, get_or-take, length-take, length-replicate, replicate_more}
 pub use Rattle.std.proofs.lemmas.List.Concat.{flat_map-append}

@@ -1,4 +1,4 @@
--- The names that most lemmas here cite, passed on from one place. Declares nothing.
+-- The names of the crates below that most lemmas here cite, passed on from one place. Declares nothing.
 pub use Rattle.std.proofs.lemmas.Bool.{eqb-false, ltb-false, lt-leb}
 pub use Rattle.std.proofs.lemmas.Bool.Decides.{nat_tests}
 pub use Rattle.std.proofs.lemmas.List.{length-replicate, get_or-replicate, replicate_more, length-append}

@@ -1,4 +1,4 @@
--- The names that most lemmas here cite, passed on from one place. Declares nothing.
+-- The names of the crates below that most lemmas here cite, passed on from one place. Declares nothing.
 pub use Rattle.std.proofs.Math.Seq.{take-append_seam}
 pub use Rattle.std.proofs.lemmas.Bool.Decides.{eqb_tells}
 pub use Rattle.std.proofs.lemmas.Int.{to_z-of_z}
