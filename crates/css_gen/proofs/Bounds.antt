@@ -35,8 +35,7 @@ later-grown lines course h =
     let below = draw-below 9000000 course.words (omega arith) in
     record { time = omega arith; requests = h.requests; takes = h.takes; answers = h.answers }
 
-happening-within : (lines : ℕ) (course : Course) → IsGrown lines course
-    → IsWithin (suc lines) (happening course).course
+happening-within : (lines : ℕ) (course : Course) → IsGrown lines course → IsWithin (suc lines) (happening course).course
 unfolding happening
 happening-within lines course h =
     let choice = draw 8 course.words in

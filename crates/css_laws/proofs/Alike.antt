@@ -23,8 +23,7 @@ use Rattle.css_laws.proofs.Turned.{line-turned, IsOpened, header-turned, header-
 
 -- ---- outcomes
 -- one outcome after another
-followed-raised : (a b c d : Outcome Cause) → IsRaised a b → IsRaised c d
-    → IsRaised (followed_by a c) (followed_by b d)
+followed-raised : (a b c d : Outcome Cause) → IsRaised a b → IsRaised c d → IsRaised (followed_by a c) (followed_by b d)
 followed-raised a b c d h next =
     subst (λ (v : Option (ℕ × Refusal Cause)). IsRaised (followed_by a c) (followed_from b.printed v d)) (sym h.verdict)
     (by a.verdict)
@@ -78,8 +77,7 @@ line-at before header version lines text line end at one read fits inside =
 -- and how far the schedule is read with it
 line-reached : (before : List (List ℕ)) (header : Header) (version : ℕ) (lines : List Numbered) (text : List ℕ)
     (line : Line) → reached before ≡ Running header version lines → length header.companions ≡ 1
-    → line_in version 1 text ≡ Ok line
-    → reached (before ++ text ∷ [])
+    → line_in version 1 text ≡ Ok line → reached (before ++ text ∷ [])
     ≡ Running header version (record { number = length before + 1; line = line } ∷ lines)
 line-reached before header version lines text line at one read = simp (reached-push before text, at, one, read)
 
@@ -213,8 +211,7 @@ has-begun text header is =
     let none : length is.bare.companions ≡ 0 = ap (λ (l : List CompanionLine). length l) is.alone in
     let all : length (is.bare.companions ++ is.companion ∷ []) ≡ 1 =
     omega (arith, none, length-append is.bare.companions (is.companion ∷ [])) in
-    let next : next_companion is.bare b ≡ Ok is.companion =
-    ap (λ (n : ℕ). companion_of (n + 1) b) none ∙ is.next in
+    let next : next_companion is.bare b ≡ Ok is.companion = ap (λ (n : ℕ). companion_of (n + 1) b) none ∙ is.next in
     record {
       one = ap (λ (h : Header). length h.companions) (sym is.whole) ∙ all;
       whole = simp (is.start, next, eq-eqb (length (is.bare.companions ++ is.companion ∷ [])) 1 all, is.whole);

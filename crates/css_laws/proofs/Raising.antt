@@ -58,21 +58,18 @@ record KeepsOthers (rename : WorldFault → WorldFault) : Type 0 where
   player : (fault : PlayerFault) → rename (Player fault) ≡ Player fault
 
 carried-map : {A : Type 0} (f : Said → A) (rename : WorldFault → WorldFault) → KeepsOthers rename → (ends : Ends)
-    (who : ℕ) (verb : Verb) (exchange : Bool) (said : Said)
-    → carried_with ends who verb exchange (f said)
+    (who : ℕ) (verb : Verb) (exchange : Bool) (said : Said) → carried_with ends who verb exchange (f said)
     ≡ result_map_both f rename (carried_with ends who verb exchange said)
 carried-map {A} f rename keeps ends who verb exchange said =
     by (exchange && can_talk who ends.tv (ends.own who) verb) (event_by who ends.tv (ends.own who) verb)
   where
-    refused : (outcome : Result Outcome TvFault)
-        → result_and (refused_by outcome) (Ok (f said))
+    refused : (outcome : Result Outcome TvFault) → result_and (refused_by outcome) (Ok (f said))
         ≡ result_map_both f rename (result_and (refused_by outcome) (Ok said))
     refused (Ok done) = refl
     refused (Err (tv.Player fault)) = ap Err (sym (keeps.player fault))
     refused (Err tv.Memory) = refl
 
-    by : (b : Bool) (event : Option TvEvent)
-        → cond b (result_and (played ends.tv event) (Ok (f said))) (Err Absent)
+    by : (b : Bool) (event : Option TvEvent) → cond b (result_and (played ends.tv event) (Ok (f said))) (Err Absent)
         ≡ result_map_both f rename (cond b (result_and (played ends.tv event) (Ok said)) (Err Absent))
     by false event = ap Err (sym keeps.absent)
     by true None = refl

@@ -38,8 +38,7 @@ one-word {A} read takes (word ∷ rest) = by (takes.value word) refl
     again a e more = takes.some word more ∙ ap (λ (value : Result A LineFault). value >>= λ a. front a more) e
 
     by : (value : Result A LineFault) → takes.value word ≡ value → IfOk (read (word ∷ rest)) (IsWord read (word ∷ rest))
-    by (Err fault) e =
-        rw (takes.some word rest ∙ ap (λ (value : Result A LineFault). value >>= λ a. front a rest) e) tt
+    by (Err fault) e = rw (takes.some word rest ∙ ap (λ (value : Result A LineFault). value >>= λ a. front a rest) e) tt
     by (Ok a) e = rw (again a e rest) (record { word = word; are = refl; again = again a e })
 
 pub number-word : (limit : ℕ) (words : List (List ℕ)) → IfOk (number_at limit words) (IsWord (number_at limit) words)
@@ -75,8 +74,7 @@ verb-second [] = tt
 verb-second (name ∷ words) = by (bytes_eq name (codes "sleep")) refl (operands_at name words) refl
   where
     by : (test : Bool) → bytes_eq name (codes "sleep") ≡ test → (read : Result (Front Verb) LineFault)
-        → operands_at name words ≡ read
-        → IfOk read (IsVerbIn (name ∷ words))
+        → operands_at name words ≡ read → IfOk read (IsVerbIn (name ∷ words))
     by test e (Err fault) same = tt
     by false e (Ok verb) same = record {
       name = name;

@@ -15,8 +15,7 @@ use Rattle.css_laws.proofs.Read.{IsWord, one-word, number-word, itself, one-read
 -- ---- the television
 mode-word : (words : List (List ℕ)) → IfOk (mode_at words) (IsWord mode_at words)
 unfolding mode_at
-mode-word words =
-    one-word mode_at (record { value = mode_of; none = refl; some = λ word rest. refl }) words
+mode-word words = one-word mode_at (record { value = mode_of; none = refl; some = λ word rest. refl }) words
 
 signed-word : (low high : ℤ) (words : List (List ℕ))
     → IfOk (signed_at 3 low high words) (IsWord (signed_at 3 low high) words)
@@ -110,8 +109,7 @@ AreStart words (Two header companions) = Unit {0}
 -- the word is this one
 same-word : (name word : List ℕ) (rest words : List (List ℕ)) → words ≡ word ∷ rest → bytes_eq word name ≡ true
     → words ≡ name ∷ rest
-same-word name word rest words are e =
-    are ∙ ap (λ (w : List ℕ). w ∷ rest) ((bytes_eq-Decides word name).0 e)
+same-word name word rest words are e = are ∙ ap (λ (w : List ℕ). w ∷ rest) ((bytes_eq-Decides word name).0 e)
 
 word-first : (words : List (List ℕ)) → IfOk (word_at words) (λ front. words ≡ front.0 ∷ front.1)
 word-first [] = tt

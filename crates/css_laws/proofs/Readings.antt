@@ -73,8 +73,7 @@ shown_lately-raised (Showed shown ∷ older) = simp (shown_lately-raised older)
 shown_lately-raised (Slept ∷ older) = refl
 
 lesser-raised : (number : Shown → ℤ) → ((shown : Shown) → number (raised_shown shown) ≡ number shown)
-    → (newer : Shown) (older : Option Shown)
-    → lesser number (raised_shown newer) (option_map raised_shown older)
+    → (newer : Shown) (older : Option Shown) → lesser number (raised_shown newer) (option_map raised_shown older)
     ≡ option_map raised_shown (lesser number newer older)
 lesser-raised number same newer None = refl
 lesser-raised number same newer (Some older) = simp same (grind arith)
@@ -86,8 +85,7 @@ worst-raised error (newer ∷ older) now =
     simp (worst-raised error older now)
     (lesser-raised (λ s. neg_ℤ (excess error s now)) (λ s. refl) newer (worst error older now))
 
-time-raised : (last : Option Shown) (now : Shown)
-    → time_verdict (option_map raised_shown last) (raised_shown now)
+time-raised : (last : Option Shown) (now : Shown) → time_verdict (option_map raised_shown last) (raised_shown now)
     ≡ result_map_both (λ x. x) raised_drift (time_verdict last now)
 time-raised None now = refl
 time-raised (Some last) now = grind arith
@@ -105,8 +103,7 @@ pub both-raised : {T U V E : Type 0} (rename : E → E) (f : T → T) (g : U →
 both-raised rename f g (Ok x) b = refl
 both-raised rename f g (Err e) b = refl
 
-verdict-raised : (error : ℕ) (told : List Told) (now : Shown)
-    → verdict error (map raised_told told) (raised_shown now)
+verdict-raised : (error : ℕ) (told : List Told) (now : Shown) → verdict error (map raised_told told) (raised_shown now)
     ≡ result_map_both (λ x. x) raised_drift (verdict error told now)
 verdict-raised error told now =
     let drift = drift_verdict error (worst error (shown_lately told) now) now in

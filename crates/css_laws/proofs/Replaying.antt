@@ -79,8 +79,7 @@ record AreRead (seed companions lines : ℕ) (extent : Extent) (printed : List �
   free : AreFree (texts_of seed companions lines)
 
 nothing-read : (seed companions : ℕ) → AreRead seed companions 0 Outset []
-nothing-read seed companions =
-    record { far = refl; so_far = refl; count = refl; few = omega arith; free = tt }
+nothing-read seed companions = record { far = refl; so_far = refl; count = refl; few = omega arith; free = tt }
 
 -- the limits of a version aren't below those of version 1
 limits : (version : ℕ) → (4096 ≤ longest_line version) × (67108864 ≤ longest_input version)
@@ -201,8 +200,7 @@ heading-read : (seed companions : ℕ) → AreSome companions
     → AreRead seed companions (heading companions) (Running (header_for companions) (version_for companions) []) []
 heading-read seed companions some = by (companions == 1) refl
   where
-    by : (one : Bool) → (companions == 1) ≡ one
-        → AreRead seed companions (if one then 1 else companions + 1)
+    by : (one : Bool) → (companions == 1) ≡ one → AreRead seed companions (if one then 1 else companions + 1)
         (Running (header_for companions) (if one then 1 else 2) []) []
     by true e =
         subst (λ (n : ℕ). AreRead seed n 1 (Running (header_for n) 1 []) []) (sym (eqb-true companions 1 e))
@@ -219,8 +217,7 @@ line_read : (seed companions number : ℕ) → AreSome companions → heading co
     ≡ Ok (line_for seed companions number)
 line_read seed companions number some late few = by (companions == 1) late
   where
-    by : (one : Bool) → (if one then 1 else companions + 1) < number
-        → line_in (if one then 1 else 2) companions
+    by : (one : Bool) → (if one then 1 else companions + 1) < number → line_in (if one then 1 else 2) companions
         (if one then text_numbered seed number else second_text seed companions number)
         ≡ Ok (if one then line_numbered seed number else second_line seed companions number)
     by true late = (generated_read seed).others number (omega (arith, late)) few

@@ -125,15 +125,13 @@ steps-free [] (byte ∷ bytes) free end = (end, tt)
 steps-free (line ∷ lines) last free end = (free.0, steps-free lines last free.1 end)
 
 -- since none stands in a part that bytes are cut into
-cut-free : (part bytes : List ℕ) → HasNoFeed part
-    → AreFree (whole_from part bytes) × HasNoFeed (last_from part bytes)
+cut-free : (part bytes : List ℕ) → HasNoFeed part → AreFree (whole_from part bytes) × HasNoFeed (last_from part bytes)
 cut-free part [] free = (tt, free)
 cut-free part (byte ∷ bytes) free =
     by (is_feed byte) refl (cut-free [] bytes (All-nil (λ b. is_feed b ≡ false)))
     (λ e. cut-free (part ++ byte ∷ []) bytes (All-push (λ b. is_feed b ≡ false) part byte free e))
   where
-    by : (feed : Bool) → is_feed byte ≡ feed
-        → AreFree (whole_from [] bytes) × HasNoFeed (last_from [] bytes)
+    by : (feed : Bool) → is_feed byte ≡ feed → AreFree (whole_from [] bytes) × HasNoFeed (last_from [] bytes)
         → (is_feed byte ≡ false → AreFree (whole_from (part ++ byte ∷ []) bytes)
         × HasNoFeed (last_from (part ++ byte ∷ []) bytes))
         → AreFree (cond feed (part ∷ whole_from [] bytes) (whole_from (part ++ byte ∷ []) bytes))
@@ -168,8 +166,7 @@ line-taken {C = C} meaning before line end e =
     by : (long : Bool) → is_long meaning before line end ≡ long
         → (answer : Result (List ℕ) C) → meaning.line before line ≡ answer
         → (cond long (refused_at [] (length before + 1) Long) (reader_outcome (length before + 1) answer)).verdict
-        ≡ None
-        → IsTaken meaning before line end
+        ≡ None → IsTaken meaning before line end
     by true is answer same v = absurd (cc)
     by false is (Ok printed) same v = record { printed = printed; short = is; meant = same }
     by false is (Err cause) same v = absurd (cc)

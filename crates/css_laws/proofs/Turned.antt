@@ -89,8 +89,7 @@ pub header-lines : (text : List ℕ) → fed (header_turned text) ≡ joined (st
 header-lines text =
     by (three_words (later_words text)) (other_words (later_words (later_words text)))
   where
-    by : (a b : List ℕ)
-        → (codes "css-schedule 2 " ++ a ++ (codes " 1" ++ 10 ∷ codes "companion 1 ") ++ b) ++ 10 ∷ []
+    by : (a b : List ℕ) → (codes "css-schedule 2 " ++ a ++ (codes " 1" ++ 10 ∷ codes "companion 1 ") ++ b) ++ 10 ∷ []
         ≡ joined ((codes "css-schedule 2 " ++ (a ++ codes " 1")) ∷ (codes "companion 1 " ++ b) ∷ [])
     by a b = simp append_assoc
 

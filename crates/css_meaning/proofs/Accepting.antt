@@ -38,8 +38,7 @@ next_older number last (first ∷ older) next above = omega (arith, next, above)
 
 -- it is above that of the last line of a companion
 pub next_own : (header : Header) (who number : ℕ) (older : List Numbered) → AreAccepted header older
-    → IsNext number older
-    → drifts.IsNext (drifts.last_shown (told_by (seen_of who older))) number
+    → IsNext number older → drifts.IsNext (drifts.last_shown (told_by (seen_of who older))) number
 next_own header who number [] accepted next = tt
 next_own header who number (last ∷ older) accepted next = elim (eqb_tells last.line.who who) [
   | inl own ↦ rw (seen_own last older who own.1) next
@@ -99,7 +98,6 @@ keeps_errors header lines accepted =
       companion = λ who i j earlier later le p q same.
           let first = first_of who lines i earlier p in
           let error = (local_of who header).error in
-          let own =
-          accepted_keeps error (told_by (seen_of who lines)) (own_accepted header who lines first accepted) in
+          let own = accepted_keeps error (told_by (seen_of who lines)) (own_accepted header who lines first accepted) in
           own_two who error lines i j earlier later own le p q same;
     }

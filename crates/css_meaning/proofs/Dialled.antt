@@ -32,8 +32,7 @@ dialled_as kind.Ts = session.Ts
 
 -- a session of companion `who` is dialled with its own kind, if it is dialled
 abbrev pub IsOfKind : ℕ → Kind → List TvEvent → History → Type 0
-IsOfKind who k events own =
-    (kind_of (peer_of who k) own ≡ None) ⊎ (kind_of (peer_of who k) own ≡ Some (dialled_as k))
+IsOfKind who k events own = (kind_of (peer_of who k) own ≡ None) ⊎ (kind_of (peer_of who k) own ≡ Some (dialled_as k))
 
 -- so each verb keeps the kinds
 keeps_kind : (header : Header) (who : ℕ) (k : Kind) → 1 ≤ who → IsKeptBy header who (IsOfKind who k)

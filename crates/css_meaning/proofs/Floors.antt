@@ -18,8 +18,7 @@ one_of_two k f low high = elim (eqb_tells (up k + down f) (up f + down k)) [
 ]
 
 -- the quotient of a sum, rounded down, is the sum of the quotients or one more
-pub floor_div-sum : (x y : ℤ) (d : ℕ) → 0 < d
-    → (floor_div (x +ℤ y) d ≡ floor_div x d +ℤ floor_div y d)
+pub floor_div-sum : (x y : ℤ) (d : ℕ) → 0 < d → (floor_div (x +ℤ y) d ≡ floor_div x d +ℤ floor_div y d)
     ⊎ (floor_div (x +ℤ y) d ≡ (floor_div x d +ℤ floor_div y d) +ℤ pos 1)
 floor_div-sum x y d p =
     let f = floor_div x d in
@@ -93,8 +92,7 @@ in_parts media distance speed u =
 
 -- the position that is shown is the one that is assigned, or one more
 pub shown_nearly : (track : Track) (segment : Segment) (at wall : ℕ) → 0 < track.rate.units_per_tick
-    → segment.at ≡ pos at
-    → let tick = position (tick_of track segment.media) at segment.speed track.rate (pos wall) in
+    → segment.at ≡ pos at → let tick = position (tick_of track segment.media) at segment.speed track.rate (pos wall) in
     (position_at track segment (pos wall) ≡ tick) ⊎ (position_at track segment (pos wall) ≡ tick +ℤ pos 1)
 shown_nearly track segment at wall positive is =
     let d : ℕ = track.rate.units_per_tick * 1000000000 in

@@ -114,8 +114,7 @@ hears_on who old new own one two before =
 -- the same texts, of the sessions as they are known
 hears_as : (events : List TvEvent) (who : ℕ) (own : History) (cii ts cii_now ts_now : List (List ℕ)) → cii_now ≡ cii
     → ts_now ≡ ts → HearsSo events who own cii ts → HearsSo events who own cii_now ts_now
-hears_as events who own cii ts cii_now ts_now one two is =
-    rw one (rw two is)
+hears_as events who own cii ts cii_now ts_now one two is = rw one (rw two is)
 
 module _ (header : Header) (who : ℕ) (first : 1 ≤ who) (events : List TvEvent) (own : History)
     (talked : HasTalked header who events own) where
@@ -284,8 +283,7 @@ order_start header who = record {
 
 -- What companion `who` heard at accepted lines is in order.
 pub in_order : (header : Header) (lines : List Numbered) (who : ℕ) → 1 ≤ who → IsDeclared header
-    → AreAccepted header lines
-    → IsInOrder header who (events_of header lines) (history_of who header lines)
+    → AreAccepted header lines → IsInOrder header who (events_of header lines) (history_of who header lines)
 in_order header lines who first declared accepted =
     each_end header who (IsInOrder header who) first (order_start header who)
     (order_kept header who first declared.companions (setup_utf8 header who declared)) (order_apart header who first)
@@ -294,8 +292,7 @@ in_order header lines who first declared accepted =
 -- ---- the states
 -- The texts that came tell the first published states, and the companion's state is the last of them.
 pub are_told_in_order : (header : Header) (lines : List Numbered) (who : ℕ) → 1 ≤ who → IsDeclared header
-    → AreAccepted header lines
-    → IsToldInOrder who header lines
+    → AreAccepted header lines → IsToldInOrder who header lines
 are_told_in_order header lines who first declared accepted =
     let tells = (in_order header lines who first declared accepted).hearing.tells in
     record {

@@ -143,8 +143,7 @@ module _ (header : Header) (who : ℕ) (first : 1 ≤ who) (events : List TvEven
   -- so the companion assigns what is published
   assigned_is : (wall : ℕ) → is_open cii own ≡ true → is_open ts own ≡ true → received_from ts events ≢ []
       → in_flight (told_to cii events) (heard_from cii own) ≡ [] → in_flight (told_to ts events) (heard_from ts own)
-      ≡ []
-      → assigned_after wanted.selector own wall ≡ published_tick wanted shown wall
+      ≡ [] → assigned_after wanted.selector own wall ≡ published_tick wanted shown wall
   assigned_is wall cii_open ts_open set_up states controls =
       let assigned : Option (Result Control TsFault) → Bool → Option (List Timeline) → Option ℤ =
       λ told closed timelines. assigned_by (timing_of told closed (rate_of wanted.selector timelines)) wall in
@@ -181,8 +180,7 @@ shown_if setup p wall (Some tick) playable is =
 -- Where both sessions of companion `who` are open, its setup has come and no text of the television is in flight, it
 -- assigns what the television published, which is the position that is shown, or one tick less.
 pub in_step : (header : Header) (lines : List Numbered) (who wall : ℕ) → 1 ≤ who → IsDeclared header
-    → AreAccepted header lines
-    → HasAllCome who header lines → IsInStep who header lines wall
+    → AreAccepted header lines → HasAllCome who header lines → IsInStep who header lines wall
 in_step header lines who wall first declared accepted all =
     let events = events_of header lines in
     let own = history_of who header lines in

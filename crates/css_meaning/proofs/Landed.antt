@@ -71,8 +71,7 @@ pub record IsAnswer (world : World) (header : Header) (d : Made) (received_at : 
 
 -- a datagram that was made is an answer in the world
 pub is_answer : (world : World) (moment_of : ℕ → ℕ) (header : Header) (who : ℕ) (lines : List Numbered)
-    (d : Made) (is : IsMade world moment_of header who lines d)
-    → IsAnswer world header d is.taken.received_at
+    (d : Made) (is : IsMade world moment_of header who lines d) → IsAnswer world header d is.taken.received_at
 is_answer world moment_of header who lines d is = by is.tells
   where
     by : Tells header d → IsAnswer world header d is.taken.received_at
@@ -121,8 +120,7 @@ is_answer world moment_of header who lines d is = by is.tells
 
 -- a made datagram is read back from its bytes
 pub message_back : (world : World) (moment_of : ℕ → ℕ) (header : Header) (who : ℕ) (lines : List Numbered) (d : Made)
-    → IsDeclared header → IsMade world moment_of header who lines d
-    → decoded (encoded d.message) ≡ Ok d.message
+    → IsDeclared header → IsMade world moment_of header who lines d → decoded (encoded d.message) ≡ Ok d.message
 message_back world moment_of header who lines d declared is =
     let answer = is_answer world moment_of header who lines d is in
     rw answer.is (answer_back header d.ticket answer.message_type answer.transmit is.taken.asked declared
@@ -130,8 +128,7 @@ message_back world moment_of header who lines d declared is =
 
 -- and it is an answer
 pub answer-in : (world : World) (moment_of : ℕ → ℕ) (header : Header) (who : ℕ) (lines : List Numbered) (d : Made)
-    → IsDeclared header → IsMade world moment_of header who lines d
-    → answer_in (encoded d.message) ≡ Some d.message
+    → IsDeclared header → IsMade world moment_of header who lines d → answer_in (encoded d.message) ≡ Some d.message
 answer-in world moment_of header who lines d declared is =
     let answer = is_answer world moment_of header who lines d is in
     let not_request : (d.message.message_type == 0) ≡ false =

@@ -78,8 +78,7 @@ each_line header who P Known talk before adds (now ∷ older) known =
 
 -- what happened once happened once in a longer history
 pub once_by : (P : Entry → History → Type 0) (header : Header) (who : ℕ) (made : List Message) (events : List TvEvent)
-    (verb : Verb) (older : History)
-    → Once P older → Once P (done_by header who made events verb older)
+    (verb : Verb) (older : History) → Once P older → Once P (done_by header who made events verb older)
 once_by P header who made events verb older once = grind (arith, once)
 
 -- ---- sleeps
@@ -199,8 +198,7 @@ last_by number verb last = option_or (option_map (λ value. record { line = numb
 
 -- what was asked, with these readings
 abbrev HasAsked : Bool → Option Reading → History → Type 0
-HasAsked woken last history =
-    AreAskedBelow (sleeps history) (least_next woken last) (least_next true last) history
+HasAsked woken last history = AreAskedBelow (sleeps history) (least_next woken last) (least_next true last) history
 
 -- a reading that isn't below the least one leaves all that was asked below
 below_read : (woken : Bool) (last : Option Reading) (reading : ℕ) (history : History) → least_next woken last ≤ reading

@@ -74,15 +74,13 @@ part-append part (x ∷ xs) ys = ap (λ ms. part x ∷ ms) (part-append part xs 
 messages-map : (at take owner reading : ℕ) (ticket : Ticket) (ms : List Message)
     → map message_of (map (tagged at take owner reading ticket) ms) ≡ ms
 messages-map at take owner reading ticket [] = refl
-messages-map at take owner reading ticket (m ∷ ms) =
-    ap (λ xs. m ∷ xs) (messages-map at take owner reading ticket ms)
+messages-map at take owner reading ticket (m ∷ ms) = ap (λ xs. m ∷ xs) (messages-map at take owner reading ticket ms)
 
 -- they are all for one companion
 owners-map : (at take owner reading : ℕ) (ticket : Ticket) (ms : List Message)
     → map owner_of (map (tagged at take owner reading ticket) ms) ≡ map (λ (m : Message). owner) ms
 owners-map at take owner reading ticket [] = refl
-owners-map at take owner reading ticket (m ∷ ms) =
-    ap (λ xs. owner ∷ xs) (owners-map at take owner reading ticket ms)
+owners-map at take owner reading ticket (m ∷ ms) = ap (λ xs. owner ∷ xs) (owners-map at take owner reading ticket ms)
 
 -- those of a ticket are its answers
 messages-to : (header : Header) (at take owner reading : ℕ) (o : Option Ticket)
@@ -222,8 +220,7 @@ numbered-with number (Some item) older a e = numbered-stays number item older a 
 
 -- what is known of a datagram is known after one more line
 made-longer : (world : World) (moment_of : ℕ → ℕ) (header : Header) (who : ℕ) (now : Numbered) (older : List Numbered)
-    (d : Made)
-    → IsMade world moment_of header who older d → IsMade world moment_of header who (now ∷ older) d
+    (d : Made) → IsMade world moment_of header who older d → IsMade world moment_of header who (now ∷ older) d
 made-longer world moment_of header who now older d is = record {
   tells = is.tells;
   in_tickets = numbered-with d.take (ticket_by header (requests older) (tickets header older) now.line.verb)
@@ -280,13 +277,11 @@ owner_there (Some w) who first e = ap Some e
 
 -- the datagrams for companion `who` of a line that answers a take
 made_by-line : (world : World) (moment_of : ℕ → ℕ) (header : Header) (who : ℕ) (now : Numbered) (older : List Numbered)
-    (d : Made) (verb : Verb) → now.line.verb ≡ verb
-    → 1 ≤ who → IsVerb verb → world (length older) ≡ moment older now
+    (d : Made) (verb : Verb) → now.line.verb ≡ verb → 1 ≤ who → IsVerb verb → world (length older) ≡ moment older now
     → NearBy (precision_ns header.tv_precision) now.line.w (tv_reading verb)
     → ((number : ℕ) (ticket : Ticket) → numbered number (tickets header older) ≡ Some ticket
     → numbered number (taken_for older) ≡ Some who → IsTaken world moment_of header who older ticket)
-    → d.owner ≡ who → IsIn d (made_at header older verb)
-    → IsMade world moment_of header who (now ∷ older) d
+    → d.owner ≡ who → IsIn d (made_at header older verb) → IsMade world moment_of header who (now ∷ older) d
 made_by-line world moment_of header who now older d (Give take reading) is first range at near taken owned h =
     by (numbered take (tickets header older)) refl h
   where
@@ -341,8 +336,7 @@ record IsGivenNow (older : List Numbered) (d : Made) : Type 0 where
 
 -- what this verb makes is given at this line
 given_now : (header : Header) (older : List Numbered) (who : ℕ) (d : Made) (verb : Verb)
-    → can_exchange header older who verb ≡ true
-    → IsIn d (made_at header older verb) → IsGivenNow older d
+    → can_exchange header older who verb ≡ true → IsIn d (made_at header older verb) → IsGivenNow older d
 given_now header older who d (Give take reading) can h = by (numbered take (tickets header older)) h
   where
     fresh : is_given take older ≡ false
@@ -369,8 +363,7 @@ given_before header (now ∷ older) d h =
       | inr q ↦ or_right (gives d.take now.line.verb) (is_given d.take older) (given_before header older d q)
     ]
   where
-    by : (verb : Verb) → IsIn d (made_at header older verb)
-        → (gives d.take verb || is_given d.take older) ≡ true
+    by : (verb : Verb) → IsIn d (made_at header older verb) → (gives d.take verb || is_given d.take older) ≡ true
     by (Give take reading) p = to (numbered take (tickets header older)) p
       where
         owner : ℕ

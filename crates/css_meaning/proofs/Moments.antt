@@ -95,8 +95,7 @@ numbers-rise header who (now ∷ older) i j le =
     n : ℕ
     n = length (history_of who header older)
 
-    by : (b c : Bool) → ltb i n ≡ b → ltb j n ≡ c
-        → moment_number who header older i ≤ moment_number who header older j
+    by : (b c : Bool) → ltb i n ≡ b → ltb j n ≡ c → moment_number who header older i ≤ moment_number who header older j
         → cond b (moment_number who header older i) (length older) ≤ cond c
         (moment_number who header older j) (length older)
     by true true p q h = h
@@ -143,8 +142,7 @@ tv_near header older now e =
 
 -- and that of its companion is near its own clock
 pub own_near : (header : Header) (older : List Numbered) (now : Numbered) (who : ℕ) → now.line.who ≡ who
-    → tested header older now ≡ Ok tt
-    → NearBy (local_of who header).precision now.line.l (own_reading now.line.verb)
+    → tested header older now ≡ Ok tt → NearBy (local_of who header).precision now.line.l (own_reading now.line.verb)
 own_near header older now who own e =
     near_by now.number (local_of who header).precision now.line.l (has_woken (seen_of who older))
     (last_reading (seen_of who older)) (own_reading now.line.verb) (own_passes header older now who own e)

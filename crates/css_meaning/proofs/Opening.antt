@@ -129,8 +129,7 @@ IsNeverOpened who k events own =
 
 -- what was never opened after a verb was never opened before it
 never_before : (header : Header) (who : ℕ) (peer : ℕ) (made : List Message) (v : Verb) (events : List TvEvent)
-    (own : History)
-    → was_opened peer (done_by header who made events v own) ≡ false → was_opened peer own ≡ false
+    (own : History) → was_opened peer (done_by header who made events v own) ≡ false → was_opened peer own ≡ false
 never_before header who peer made v events own never = grind (arith, never)
 
 -- and is not opened by it

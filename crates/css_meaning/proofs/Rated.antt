@@ -13,8 +13,7 @@ use Rattle.css_meaning.proofs.Names.{Player, Programme, Segment, Track, position
 use Rattle.css_meaning.proofs.Floors.{shown_nearly}
 
 -- the first rate with a selector is that of the first timeline with it
-first_rate-told : (selector : List ℕ) (tracks : List Track)
-    → first_rate selector (map told_of tracks)
+first_rate-told : (selector : List ℕ) (tracks : List Track) → first_rate selector (map told_of tracks)
     ≡ option_map (λ (t : Track). t.rate) (find (λ t. bytes_eq t.selector selector) tracks)
 first_rate-told selector [] = refl
 first_rate-told selector (t ∷ tracks) = by (bytes_eq t.selector selector) (first_rate-told selector tracks)
@@ -88,8 +87,7 @@ size-is (negsuc n) low = absurd (omega (arith, ints, low))
 
 -- a timeline shows this tick, or the next one
 abbrev IsNearly : Track → Segment → ℕ → ℤ → Type 0
-IsNearly track s wall tick =
-    (position_at track s (pos wall) ≡ tick) ⊎ (position_at track s (pos wall) ≡ tick +ℤ pos 1)
+IsNearly track s wall tick = (position_at track s (pos wall) ≡ tick) ⊎ (position_at track s (pos wall) ≡ tick +ℤ pos 1)
 
 -- the published tick of a segment is the position that is shown, or one less
 shown-in : (stem selector : List ℕ) (s : Segment) (o : Option Programme) (track : Track) (wall : ℕ) (tick : ℤ)

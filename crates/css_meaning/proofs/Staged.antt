@@ -130,8 +130,7 @@ staging header (now ∷ older) accepted =
 pub never_opened : (header : Header) (lines : List Numbered) (who : ℕ) (k : Kind) → 1 ≤ who → AreAccepted header lines
     → was_opened (peer_of who k) (history_of who header lines) ≡ false
     → life_of (peer_of who k) (calls_of addresses (events_of header lines)).sessions ≡ None
-never_opened header lines who k first accepted never =
-    ((staging header lines accepted).unknown who first k never).life
+never_opened header lines who k first accepted never = ((staging header lines accepted).unknown who first k never).life
 
 -- and no talk
 pub no_talk : (header : Header) (lines : List Numbered) (who : ℕ) (k : Kind) → 1 ≤ who → AreAccepted header lines
@@ -155,8 +154,7 @@ IsKeptApart who P = (e : TvEvent) (events : List TvEvent) (own : History)
 
 -- so it is kept where there may be an event
 apart_kept : (who : ℕ) (P : List TvEvent → History → Type 0) (o : Option TvEvent) (events : List TvEvent)
-    (own : History) → IsKeptApart who P
-    → ((k : Kind) → IfSome o (λ e. concerns (peer_of who k) e ≡ false))
+    (own : History) → IsKeptApart who P → ((k : Kind) → IfSome o (λ e. concerns (peer_of who k) e ≡ false))
     → IfSome o (λ e. IsSound e (calls_of addresses events).sessions)
     → IsStaging who events own → IsStaging who (option_to_list o ++ events) own → P events own
     → P (option_to_list o ++ events) own
@@ -188,8 +186,7 @@ each_end header who P first start kept apart (now ∷ older) accepted =
           let es = events_now header now older who same.1 in
           let h = history_now header now older who same.1 in
           let done = done_by header who made events v own in
-          let staged : IsStaging who (events_with who events own v) done =
-          rw es at (rw h at after) in
+          let staged : IsStaging who (events_with who events own v) done = rw es at (rw h at after) in
           rw h (rw es (kept made v events own accepted.0.verb can all.below before staged p))
       | inr differs ↦
           let h = history_other header now older who differs.1 in

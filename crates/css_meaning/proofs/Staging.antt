@@ -39,8 +39,7 @@ use Rattle.css_meaning.proofs.Playing.{delay_playable, control_in_range, state_r
 
 -- what is shown and told after calls
 abbrev pub stage_by : Addresses → Calls → Stage
-stage_by a calls =
-    record { addresses = a; player = player_of calls.player; sessions = sessions_of calls.sessions }
+stage_by a calls = record { addresses = a; player = player_of calls.player; sessions = sessions_of calls.sessions }
 
 -- The player and the sessions stand for their calls, what always holds of a television holds, and the player's numbers
 -- are in range.

@@ -87,8 +87,7 @@ module _ (header : Header) (who : ℕ) (first : 1 ≤ who) (events : List TvEven
       }
 
   -- the session of CSS-CII opens
-  cii_opens : AreFew events → was_opened cii own ≡ false
-      → let new = event.Opened cii kind.Cii ∷ events in
+  cii_opens : AreFew events → was_opened cii own ≡ false → let new = event.Opened cii kind.Cii ∷ events in
       let after = Dialled session.Cii cii ∷ own in IsStaging who new after → HasTalked header who new after
   cii_opens few never staging =
       let e = event.Opened cii kind.Cii in
@@ -114,15 +113,12 @@ module _ (header : Header) (who : ℕ) (first : 1 ≤ who) (events : List TvEven
     where
       -- where the other session is as before, so is what is known of it
       ts_as_before : (new : List TvEvent) (after : History) → kind_of ts after ≡ kind_of ts own
-          → is_open ts after ≡ is_open ts own
-          → HasTsOf header who new own (exchanged who events own)
+          → is_open ts after ≡ is_open ts own → HasTsOf header who new own (exchanged who events own)
           → HasTs setup (kind_of ts after) (is_open ts after) (lived_after ts new) (exchanged who events own)
-      ts_as_before new after kind live is =
-          rw kind (rw live is)
+      ts_as_before new after kind live is = rw kind (rw live is)
 
   -- it closes
-  cii_closes : is_open cii own ≡ true
-      → let new = event.Closed cii ∷ events in
+  cii_closes : is_open cii own ≡ true → let new = event.Closed cii ∷ events in
       let after = Closed cii ∷ own in IsStaging who new after → HasTalked header who new after
   cii_closes live staging =
       let e = event.Closed cii in
@@ -179,8 +175,7 @@ module _ (header : Header) (who : ℕ) (first : 1 ≤ who) (events : List TvEven
       }
 
   -- it closes
-  ts_closes : is_open ts own ≡ true
-      → let new = event.Closed ts ∷ events in
+  ts_closes : is_open ts own ≡ true → let new = event.Closed ts ∷ events in
       let after = Closed ts ∷ own in IsStaging who new after → HasTalked header who new after
   ts_closes live staging =
       let e = event.Closed ts in
@@ -267,8 +262,7 @@ module _ (header : Header) (who : ℕ) (first : 1 ≤ who) (events : List TvEven
   -- ---- verbs
   -- the same of both sessions: one opens
   opens_talked : (k : Kind) (made : List Message) → AreFew events → IsUtf8Setup setup
-      → was_opened (peer_of who k) own ≡ false
-      → IsStaging who (events_with who events own (verb.Opening k))
+      → was_opened (peer_of who k) own ≡ false → IsStaging who (events_with who events own (verb.Opening k))
       (done_by header who made events (verb.Opening k) own)
       → HasTalked header who (events_with who events own (verb.Opening k))
       (done_by header who made events (verb.Opening k) own)

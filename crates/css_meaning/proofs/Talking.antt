@@ -69,8 +69,7 @@ HasCii (Some _) live lived = ⊥
 cii_grown : (old new : Option Lived) (live : Bool) (q : Player) (is : IsCiiOpened old live)
     → let life = CiiLife is.first is.later in new ≡ lived_as (cond live (grown_by q life) life) live
     → IsCiiOpened new live
-cii_grown old new false q is now =
-    record { first = is.first; later = is.later; is = now; addressed = is.addressed }
+cii_grown old new false q is now = record { first = is.first; later = is.later; is = now; addressed = is.addressed }
 cii_grown old new true q is now = record {
   first = is.first;
   later = published_state addresses q ∷ is.later;
@@ -319,8 +318,7 @@ module _ (header : Header) (who : ℕ) (events : List TvEvent) (own : History)
       talked.cii
 
   -- an open session of CSS-TS has its life
-  pub ts_live : is_open (ts_of who) own ≡ true
-      → (kind_of (ts_of who) own ≡ Some session.Ts)
+  pub ts_live : is_open (ts_of who) own ≡ true → (kind_of (ts_of who) own ≡ Some session.Ts)
       × IsOpened (setup_of who header) (lived_after (ts_of who) events) (is_open (ts_of who) own)
       (exchanged who events own)
   ts_live live =

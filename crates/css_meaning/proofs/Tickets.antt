@@ -56,8 +56,7 @@ numbered-newest number item older a is e =
 -- each other item is an older one
 numbered-older : {A : Type 0} (number : ℕ) (item : A) (older : List A) (a : A)
     → (number == suc (length older)) ≡ false → numbered number (item ∷ older) ≡ Some a → numbered number older ≡ Some a
-numbered-older number item older a is e =
-    sym (ap (λ b. cond b (Some item) (numbered number older)) is) ∙ e
+numbered-older number item older a is e = sym (ap (λ b. cond b (Some item) (numbered number older)) is) ∙ e
 
 -- ---- the companions of requests and of takes
 -- each request has its companion
@@ -216,8 +215,7 @@ taken-longer world moment_of header who now older ticket taken = record {
 
 -- a ticket for this request was taken at the moment of the newest line
 taken-now : (world : World) (moment_of : ℕ → ℕ) (header : Header) (who : ℕ) (now : Numbered) (older : List Numbered)
-    (ticket : Ticket) (reading asked : ℕ)
-    → reading < LIMIT → world (length older) ≡ moment older now
+    (ticket : Ticket) (reading asked : ℕ) → reading < LIMIT → world (length older) ≡ moment older now
     → IsWithin (precision_ns header.tv_precision) reading now.line.w
     → IsSent moment_of header who older asked → ticket_at header (tickets header older) reading asked ≡ ticket
     → IsTaken world moment_of header who (now ∷ older) ticket
@@ -310,8 +308,7 @@ are_promised header (now ∷ older) =
 
 -- two promises of equal readings have one number
 pub one_promise : (items : List Ticket) (i j : ℕ) (a b : Ticket) → PromisesRise items → numbered i items ≡ Some a
-    → numbered j items ≡ Some b
-    → a.follow_up ≡ true → b.follow_up ≡ true → a.reading ≡ b.reading → i ≡ j
+    → numbered j items ≡ Some b → a.follow_up ≡ true → b.follow_up ≡ true → a.reading ≡ b.reading → i ≡ j
 one_promise [] i j a b rise p q f g e = absurd (cc)
 one_promise (ticket ∷ older) i j a b rise p q f g e =
     by (i == suc (length older)) (j == suc (length older)) refl refl p q

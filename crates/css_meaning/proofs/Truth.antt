@@ -224,15 +224,13 @@ accepted_lines_are_world header lines declared accepted who is = record {
 
 -- ---- the wall clock
 -- an answer whose span contains the wall clock
-covers : (own : Local) (reading wall : ℕ) (answer : Option Answer)
-    → IfSome answer (λ a. Contains own a reading wall)
+covers : (own : Local) (reading wall : ℕ) (answer : Option Answer) → IfSome answer (λ a. Contains own a reading wall)
     → IfSome (option_map (span_of own reading) answer) (λ span. Covers span (pos wall))
 covers own reading wall None contains = tt
 covers own reading wall (Some answer) contains = record { low = contains.low; high = contains.high }
 
 -- the history with the reading of a `wall` line
-wall-history : (header : Header) (now : Numbered) (older : List Numbered) (reading : ℕ)
-    → now.line.verb ≡ Wall reading
+wall-history : (header : Header) (now : Numbered) (older : List Numbered) (reading : ℕ) → now.line.verb ≡ Wall reading
     → history_of now.line.who header (now ∷ older) ≡ Clock why.Turn reading ∷ history_of now.line.who header older
 wall-history header now older reading is =
     history_now header now older now.line.who refl ∙ ap (λ (v : Verb). done_at header older now.line.who v) is
@@ -291,8 +289,7 @@ TakenIn own h world tv_error moment_of bytes reading landed =
 
 -- a truthful answer is accepted, or its request left the last 64
 lands_well : (own : Local) (h : History) (world : World) (tv_error : ℕ) (moment_of : ℕ → ℕ) (bytes : List ℕ)
-    (message : Message) (reading : ℕ)
-    → (message.message_type == 0) ≡ false → answer_in bytes ≡ Some message
+    (message : Message) (reading : ℕ) → (message.message_type == 0) ≡ false → answer_in bytes ≡ Some message
     → IsTruthful world tv_error moment_of (record { message = message; reading = reading }) (Took peer bytes ∷ h)
     → AcceptsAt world tv_error own moment_of (Clock why.Land reading) (Took peer bytes ∷ h)
     → LandsWell (landing_of_message own h reading message)

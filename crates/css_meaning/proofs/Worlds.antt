@@ -143,8 +143,7 @@ sleeps_woke now older who is sleep =
 -- at a line that is no sleep as often as before
 pub sleeps_awake : (now : Numbered) (older : List Numbered) (who : ℕ) → is_sleep now.line.verb ≡ false
     → sleeps_of who (now ∷ older) ≡ sleeps_of who older
-sleeps_awake now older who awake =
-    sleeps-now now older who false (ap (λ b. b && (now.line.who == who)) awake)
+sleeps_awake now older who awake = sleeps-now now older who false (ap (λ b. b && (now.line.who == who)) awake)
 
 -- and at one of another companion
 pub sleeps_other : (now : Numbered) (older : List Numbered) (who : ℕ) → now.line.who ≢ who
@@ -408,5 +407,4 @@ tv_two error (now ∷ older) i j pairs le =
     -- the same of equal moments
     both : {m m' n n' : Moment} → m ≡ m' → n ≡ n' → (m.time ≤ n.time) × RunsWithin error m.time m.wall n.time n.wall
         → (m'.time ≤ n'.time) × RunsWithin error m'.time m'.wall n'.time n'.wall
-    both {m} {m'} {n} {n'} p q is =
-        rw p at (rw q at is)
+    both {m} {m'} {n} {n'} p q is = rw p at (rw q at is)

@@ -65,8 +65,7 @@ lines-accepted : (seed companions count : ℕ) → AreSome companions → count 
     → AreAccepted (header_for companions) (generated seed companions count)
 lines-accepted seed companions count some few = by (companions == 1) refl
   where
-    by : (b : Bool) → (companions == 1) ≡ b
-        → AreAccepted (header_for companions) (generated seed companions count)
+    by : (b : Bool) → (companions == 1) ≡ b → AreAccepted (header_for companions) (generated seed companions count)
     by true e =
         subst (λ (n : ℕ). AreAccepted (header_for n) (generated seed n count)) (sym (eqb-true companions 1 e))
         (front-accepted (header_for 1) seed 1 8 count (one-accepted seed count (omega (arith, few))))

@@ -75,8 +75,7 @@ pub record AreExchanged (companions : ℕ) (senders askers : List ℕ) (given sh
 -- What a line may say after these exchanges, where its clocks show `w` and `l`.
 abbrev pub Comes : (senders askers : List ℕ) → (given w who l : ℕ) → Verb → Type 0
 Comes senders askers given w who l (Ask reading) = reading ≡ l
-Comes senders askers given w who l (Take request reading) =
-    (1 ≤ request) × (request ≤ length senders) × (reading ≡ w)
+Comes senders askers given w who l (Take request reading) = (1 ≤ request) × (request ≤ length senders) × (reading ≡ w)
 Comes senders askers given w who l (Give take reading) = (take ≡ given + 1) × (given < length askers) × (reading ≡ w)
 Comes senders askers given w who l (Land datagram reading) =
     (numbered datagram (made_of askers given) ≡ Some who) × (reading ≡ l)
@@ -122,14 +121,12 @@ tickets-later shown shown' later taken h =
 
 -- a line, with its number
 abbrev pub saying : (number t w who l : ℕ) → Verb → Numbered
-saying number t w who l verb =
-    record { number = number; line = record { t = t; w = w; who = who; l = l; verb = verb } }
+saying number t w who l verb = record { number = number; line = record { t = t; w = w; who = who; l = l; verb = verb } }
 
 -- such a line leaves all as it was
 pub still : (companions : ℕ) (senders askers : List ℕ) (given shown : ℕ) (lines : List Numbered)
     → AreExchanged companions senders askers given shown lines → (number t w who l : ℕ) → shown ≤ w → (verb : Verb)
-    → is_idle verb ≡ true
-    → AreExchanged companions senders askers given w (saying number t w who l verb ∷ lines)
+    → is_idle verb ≡ true → AreExchanged companions senders askers given w (saying number t w who l verb ∷ lines)
 still companions senders askers given shown lines h number t w who l later (Ask reading) e = absurd (cc)
 still companions senders askers given shown lines h number t w who l later (Take request reading) e = absurd (cc)
 still companions senders askers given shown lines h number t w who l later (Give take reading) e = absurd (cc)
@@ -178,8 +175,7 @@ module _ (companions : ℕ) (senders askers : List ℕ) (given shown : ℕ) (lin
       let there = item-there {A = ℕ} (λ (n : ℕ). ⊤) request (requests lines) comes.0
       (omega (arith, h.requests, comes.1)) (all-any (requests lines)) in
       let new : Ticket = happened.ticket_at (header_for companions) taken reading there.item in
-      let is : tickets (header_for companions) (now (Take request reading) ∷ lines) ≡ new ∷ taken =
-      simp there.is in
+      let is : tickets (header_for companions) (now (Take request reading) ∷ lines) ≡ new ∷ taken = simp there.is in
       let this : IsTicket w new = record {
         before = omega (arith, comes.2);
         follows = greater-by reading (greatest_reading taken)

@@ -99,8 +99,7 @@ module _ (senders askers : List ℕ) (who : ℕ) (course : Course) (requests : l
   chosen-says choice lands =
       by (nat_lt choice 2) (choice == 2) (choice == 3) (nat_lt choice 6) refl refl refl
     where
-      by : (a b c d : Bool) → nat_lt choice 2 ≡ a → (choice == 2) ≡ b → (choice == 3) ≡ c
-          → Says
+      by : (a b c d : Bool) → nat_lt choice 2 ≡ a → (choice == 2) ≡ b → (choice == 3) ≡ c → Says
           (if a then asked course
           else if b then taken course
           else if c then given course
@@ -117,15 +116,13 @@ module _ (senders askers : List ℕ) (who : ℕ) (course : Course) (requests : l
   unfolding chosen_of
   chosen_of-says choice = by (nat_lt choice 4) (nat_lt choice 6) (nat_lt choice 8) refl
     where
-      by : (a b c : Bool) → nat_lt choice 4 ≡ a
-          → Says
+      by : (a b c : Bool) → nat_lt choice 4 ≡ a → Says
           (if a then chosen choice course
           else if b then landed_of (datagrams who askers course.answers) course
           else if c then printed course
           else slept course)
       by true b c e = chosen-says choice (λ high. absurd (grind (arith, nat_tests)))
-      by false true c e =
-          landed_of-says (datagrams who askers course.answers) (datagrams-for who askers course.answers)
+      by false true c e = landed_of-says (datagrams who askers course.answers) (datagrams-for who askers course.answers)
       by false false true e = refl
       by false false false e = tt
 

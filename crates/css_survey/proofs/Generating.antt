@@ -31,8 +31,7 @@ one_state course = record {
 
 -- each line is of the one companion
 pub of-one : (t w l : ℕ) (verb : Verb) → IsSecond 1 (record { t = t; w = w; who = 1; l = l; verb = verb })
-of-one t w l verb =
-    record { who = omega arith; own = λ own. omega arith; none = λ zero. absurd (omega (arith, zero)) }
+of-one t w l verb = record { who = omega arith; own = λ own. omega arith; none = λ zero. absurd (omega (arith, zero)) }
 
 one-drawn : (course : Course) → IsSmall course
     → IsDrawn 1 (one_state course) (next_line course) (one_state (next_course course))

@@ -82,8 +82,7 @@ clock-first companions who l number range second own = record {
   idle = verb-idle number;
 }
 
-placed-first : (companions place : ℕ) → 2 ≤ place → place ≤ 4 + 5 * companions
-    → IsFirst companions (line_placed place)
+placed-first : (companions place : ℕ) → 2 ≤ place → place ≤ 4 + 5 * companions → IsFirst companions (line_placed place)
 placed-first companions place low high =
     by (nat_lt place 5) (placed-range place) (placed-second companions place low high)
   where
@@ -92,8 +91,7 @@ placed-first companions place low high =
 
     by : (b : Bool) → IsLine (line b) → IsSecond companions (line b) → IsFirst companions (line b)
     by true range second = clock-first companions 0 0 place range second (λ some. absurd (omega (arith, some)))
-    by false range second =
-        clock-first companions (place / 5) 1000000000 (5 + place % 5) range second (λ some. refl)
+    by false range second = clock-first companions (place / 5) 1000000000 (5 + place % 5) range second (λ some. refl)
 
 first-is : (companions count : ℕ) → count < whole_of companions → IsFirst companions (first_line companions count)
 first-is companions count below = by (companions == 1) refl
@@ -234,8 +232,7 @@ record AreOpened (companions count : ℕ) (lines : List Numbered) : Type 0 where
 opened-more : (companions count who i : ℕ) (verb : Verb) (lines : List Numbered) → 1 ≤ who → who ≤ companions → i < 5
     → count + 2 ≡ 5 * who + i → opening_verb (5 + i) ≡ verb → tv_reading verb ≡ None
     → carried_out (header_for companions) lines (own_line companions count who verb) ≡ Ok []
-    → AreOpened companions count lines
-    → AreOpened companions (suc count) (own_line companions count who verb ∷ lines)
+    → AreOpened companions count lines → AreOpened companions (suc count) (own_line companions count who verb ∷ lines)
 unfolding opened_to
 opened-more companions count who i verb lines some few small place is unread carried before =
     let header = header_for companions in
@@ -402,8 +399,7 @@ opening-generated seed companions (suc count) few =
     )
 
 -- so a generator's lines begin
-pub opening-holds : (seed companions : ℕ) (tv_fast : Bool) (fast : Oscillators) → AreSome companions
-    → Holds companions
+pub opening-holds : (seed companions : ℕ) (tv_fast : Bool) (fast : Oscillators) → AreSome companions → Holds companions
     (record { tv_fast = tv_fast; fast = fast; time = 0; senders = []; askers = []; answers = 0 })
     (heading companions + suc (whole_of companions)) (generated seed companions (whole_of companions))
 opening-holds seed companions tv_fast fast some =

@@ -147,8 +147,7 @@ own_3 companions count who lines =
     own_line companions (suc (suc count)) who (Opening kind.Ts) ∷ own_2 companions count who lines
 
 abbrev pub own_4 : (companions count who : ℕ) → List Numbered → List Numbered
-own_4 companions count who lines =
-    own_line companions (suc (suc (suc count))) who Up ∷ own_3 companions count who lines
+own_4 companions count who lines = own_line companions (suc (suc (suc count))) who Up ∷ own_3 companions count who lines
 
 abbrev pub own_5 : (companions count who : ℕ) → List Numbered → List Numbered
 own_5 companions count who lines =

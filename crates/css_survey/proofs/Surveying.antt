@@ -93,8 +93,7 @@ few-more : (report : Report) (summary : Summary) (lines : ℕ) → AreFew summar
 few-more (reports.Ticks low high) summary lines few = record { prints = omega arith; intervals = omega arith }
 few-more (reports.None cause) summary lines few = record { prints = omega arith; intervals = omega arith }
 
-pub few_counted : (header : Header) (lines : List Numbered)
-    → AreFew (summary_of (told_of header lines)) (length lines)
+pub few_counted : (header : Header) (lines : List Numbered) → AreFew (summary_of (told_of header lines)) (length lines)
 few_counted header [] = record { prints = omega arith; intervals = omega arith }
 few_counted header (now ∷ older) = by (told_at header older now) (few_counted header older)
   where
@@ -139,8 +138,7 @@ generated-count seed companions (suc count) = ap suc (generated-count seed compa
 -- the next one is accepted
 next-accepted : (survey : Surveyor) (seed companions given : ℕ) (line : Line) → AreSome companions
     → heading companions ≤ given → given < 200000 → HasTaken survey seed companions given
-    → line ≡ line_for seed companions (given + 1)
-    → AreAccepted survey.world.header
+    → line ≡ line_for seed companions (given + 1) → AreAccepted survey.world.header
     (record { number = given + 1; line = line } ∷ generated seed companions (given - heading companions))
 next-accepted survey seed companions given line some within few has is =
     let first : 1 ≤ heading companions = grind (arith, nat_tests) in

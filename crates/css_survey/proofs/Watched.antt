@@ -56,8 +56,7 @@ accepted-with false told accepted = accepted
 
 -- ---- clocks
 -- the clock keeps its error from each of them
-all-keep : (fast : Bool) (now : Seen) → IsSeen fast now.time now → (seen : List Seen)
-    → All (IsSeen fast now.time) seen
+all-keep : (fast : Bool) (now : Seen) → IsSeen fast now.time now → (seen : List Seen) → All (IsSeen fast now.time) seen
     → All (λ earlier. Keeps 12800 earlier (shown_at now)) (shown_lately (told_by seen))
 all-keep fast now h [] all = All-nil (λ earlier. Keeps 12800 earlier (shown_at now))
 all-keep fast now h (s ∷ seen) all =
@@ -94,8 +93,7 @@ clock-ok fast time number seen now h later this =
 
 -- and the line is seen with the others
 pub seen_next : (fast : Bool) (time number : ℕ) (seen : List Seen) (now : Seen) → AreSeen fast time number seen
-    → time ≤ now.time → now.number ≡ number → IsSeen fast now.time now
-    → AreSeen fast now.time (number + 1) (now ∷ seen)
+    → time ≤ now.time → now.number ≡ number → IsSeen fast now.time now → AreSeen fast now.time (number + 1) (now ∷ seen)
 seen_next fast time number seen now h later is this =
     let all = all-later fast time now.time later seen h.each in
     record {

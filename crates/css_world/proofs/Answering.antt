@@ -99,8 +99,7 @@ answer_owned server ticket reading asker answered items older is are =
 pub given : (old : Kept) (lines : List Numbered) (number t w who l take reading asker : ℕ) (ticket : Ticket)
     (answered : Answered) (tv : Television) (made : List (List ℕ)) (owners : List ℕ)
     → EndsStand old lines → option_flatten (stored old.tv.takes.items take) ≡ Some ticket
-    → stored old.taken_for take ≡ Some asker
-    → tv.tv ≡ old.tv.tv → tv.takes.items ≡ spent old.tv.takes.items take
+    → stored old.taken_for take ≡ Some asker → tv.tv ≡ old.tv.tv → tv.takes.items ≡ spent old.tv.takes.items take
     → IsAnswerTo (server_of old.header) ticket reading answered
     → made ≡ old.datagrams ++ answered.response ∷ option_to_list answered.follow_up
     → owners ≡ old.made_for ++ asker ∷ option_to_list (option_map (λ bytes. asker) answered.follow_up)

@@ -249,8 +249,7 @@ module _ (old : Both) (lines : List Numbered) (number t w who l : ℕ) where
   -- a text of the companion comes to the television
   pub raises : (text : List ℕ) (lane : Lane) (ts : Session) (tv : Tv) (lanes : List Lane) → EndsStand old lines
       → 1 ≤ who → who ≤ length old.lanes → stored old.lanes who ≡ Some lane
-      → first_in lane.ts.phase lane.ts.up ≡ Some text
-      → ts ≡ record lane.ts { up = rest_in lane.ts.phase lane.ts.up }
+      → first_in lane.ts.phase lane.ts.up ≡ Some text → ts ≡ record lane.ts { up = rest_in lane.ts.phase lane.ts.up }
       → WhenPlayed (event.Heard (ts_of who) text) old.tv.tv tv
       (slice_set old.lanes (who - 1) (record lane { ts = ts })) lanes → tv.server ≡ old.tv.tv.server
       → KeepsAllButTexts (slice_set old.lanes (who - 1) (record lane { ts = ts })) lanes

@@ -56,8 +56,7 @@ line_of companions items who item count each found =
 
 -- a new watch is as the header declares
 pub new_watch : (header : Header) (own : List Watch) → AreNew header.companions own → (who : ℕ) (watch : Watch)
-    → stored own who ≡ Some watch
-    → WatchStands (local_of who header).error (local_of who header).precision [] [] watch
+    → stored own who ≡ Some watch → WatchStands (local_of who header).error (local_of who header).precision [] [] watch
 new_watch header own are who watch found =
     let is = line_of header.companions own who watch are.count are.each found in
     subst (λ (l : Local). WatchStands l.error l.precision [] [] watch) (sym (local_at header who is.0 is.1)) is.2

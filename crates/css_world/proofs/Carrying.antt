@@ -166,11 +166,8 @@ ticket_same server header older reading asked follow greatest =
 
 -- `take` leaves ends that stand for one line more
 pub taken : (old : Kept) (lines : List Numbered) (number t w who l request reading asked asker : ℕ) (tv : Television)
-    (owners : List ℕ)
-    → EndsStand old lines → numbered request (requests lines) ≡ Some asked
-    → numbered request (askers lines) ≡ Some asker
-    → tv.tv.stage ≡ old.tv.tv.stage
-    → servers.StandsFor tv.tv.server
+    (owners : List ℕ) → EndsStand old lines → numbered request (requests lines) ≡ Some asked
+    → numbered request (askers lines) ≡ Some asker → tv.tv.stage ≡ old.tv.tv.stage → servers.StandsFor tv.tv.server
     (ticket_at old.header (tickets old.header lines) reading asked ∷ tickets old.header lines)
     → tv.takes.items ≡ old.tv.takes.items ++ Some (ticket_at old.header (tickets old.header lines) reading asked) ∷ []
     → owners ≡ old.taken_for ++ asker ∷ []

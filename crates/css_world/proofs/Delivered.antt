@@ -29,8 +29,7 @@ untold session news none =
 
 -- before anything is told nothing is in flight
 pub none_yet : (lanes : List Lane) → AllTakeUp [] lanes lanes
-none_yet lanes who lane found =
-    (lane, found, record { cii = untold lane.cii [] refl; ts = untold lane.ts [] refl })
+none_yet lanes who lane found = (lane, found, record { cii = untold lane.cii [] refl; ts = untold lane.ts [] refl })
 
 -- ---- one output
 -- a text of another peer isn't told to this one
@@ -94,8 +93,7 @@ told_on xs out first before after so_far now who lane found =
 -- what isn't touched twice isn't touched
 pub kept_on : (first before after : List Lane) → KeepsAllButTexts first before → KeepsAllButTexts before after
     → KeepsAllButTexts first after
-kept_on first before after one two =
-    record { companions = two.companions ∙ one.companions }
+kept_on first before after one two = record { companions = two.companions ∙ one.companions }
 
 -- there are as many lanes
 pub as_many : (old new : List Lane) → KeepsAllButTexts old new → length new ≡ length old

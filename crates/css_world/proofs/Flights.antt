@@ -118,14 +118,12 @@ opened-err phase live opened old fault is err = grind (arith, is, err)
 
 -- a session that closes is open
 pub closed-ok : (phase : Phase) (live opened : Bool) (new : Session) → phase ≡ phase_of live opened
-    → closed_from phase ≡ Ok new
-    → (live ≡ true) × (new ≡ record { phase = Over; down = []; up = [] })
+    → closed_from phase ≡ Ok new → (live ≡ true) × (new ≡ record { phase = Over; down = []; up = [] })
 closed-ok phase live opened new is ok = grind (arith, is, ok)
 
 -- one that doesn't close isn't
 pub closed-err : (phase : Phase) (live opened : Bool) (fault : WorldFault) → phase ≡ phase_of live opened
-    → closed_from phase ≡ Err fault
-    → (live ≡ false) × (fault ≡ Absent)
+    → closed_from phase ≡ Err fault → (live ≡ false) × (fault ≡ Absent)
 closed-err phase live opened fault is err = grind (arith, is, err)
 
 -- whether it is open, by its phase

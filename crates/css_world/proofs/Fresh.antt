@@ -9,8 +9,7 @@ abbrev pub Each : {A : Type 0} → (CompanionLine → A → Type 0) → List Com
 Each {A} Is companions items = (who : ℕ) (declared : CompanionLine) (item : A) → stored companions who ≡ Some declared
     → stored items who ≡ Some item → Is declared item
 
-pub none_made : {A : Type 0} (Is : CompanionLine → A → Type 0) (companions : List CompanionLine)
-    → Each Is companions []
+pub none_made : {A : Type 0} (Is : CompanionLine → A → Type 0) (companions : List CompanionLine) → Each Is companions []
 none_made {A} Is companions who declared item at found =
     let within = stored_within {A = A} [] who item found in absurd (omega (arith, within.0, within.1))
 

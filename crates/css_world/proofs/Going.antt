@@ -242,8 +242,7 @@ module _ {header : Header} {old shown read : Clocks} {ends new : Ends} {before a
   line_stands (Err fault) steps lines stands next = tt
 
   -- and what is printed for it is true
-  pub line_true : (result : Result (Unit {0}) WorldFault)
-      → Steps header old shown read ends new before after result now
+  pub line_true : (result : Result (Unit {0}) WorldFault) → Steps header old shown read ends new before after result now
       → TellsTruth (world_as header old ends) result now
   line_true (Ok x) steps lines stands next =
       accepted_lines_are_true header lines now stands.ready.declared

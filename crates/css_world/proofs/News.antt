@@ -49,8 +49,7 @@ told-next peer xs out first before after is then_is =
 -- what an outcome tells a peer
 news-of-outcome : (peer : ℕ) (o : Outcome) (kept : Kept)
     → news_of peer (outcome_outs o kept) ≡ said_to peer (said_after o.called kept)
-news-of-outcome peer o kept =
-    ap (said_to peer) (said_in o kept [])
+news-of-outcome peer o kept = ap (said_to peer) (said_in o kept [])
 
 -- the outcome at a stage is that of the events it stands for
 pub outcome-same : (e : TvEvent) (stage : Stage) (events : List TvEvent) → tvs.StandsFor stage events
@@ -84,8 +83,7 @@ texts-after peer e old new events told (Ok o) is done stands after =
 -- an event that the television took in tells each peer what it was to be told
 pub told-news : (peer : ℕ) (e : TvEvent) (old new : Stage) (events : List TvEvent) (told : List TvOut)
     → tvs.IsAfterBy old new [] told (outcome_at e old) → tvs.StandsFor old events → tvs.StandsFor new (e ∷ events)
-    → old.addresses ≡ addresses
-    → told_to peer (e ∷ events) ≡ reverse (news_of peer told) ++ told_to peer events
+    → old.addresses ≡ addresses → told_to peer (e ∷ events) ≡ reverse (news_of peer told) ++ told_to peer events
 told-news peer e old new events told done stands after same =
     subst (λ a. tvs.texts_after a peer (e ∷ events) ≡ reverse (news_of peer told) ++ tvs.texts_after a peer events) same
     (texts-after peer e old new events told (outcome_at e old) refl done stands after)

@@ -89,8 +89,7 @@ set_others items (suc place) (suc other) item first differs =
 
 -- what holds of each other item, and of what is written there, holds of each
 pub each_written : {A : Type 0} (P : ℕ → A → Type 0) (items : List A) (who : ℕ) (item : A) → 1 ≤ who
-    → who ≤ length items
-    → ((other : ℕ) (x : A) → other ≢ who → stored items other ≡ Some x → P other x) → P who item
+    → who ≤ length items → ((other : ℕ) (x : A) → other ≢ who → stored items other ≡ Some x → P other x) → P who item
     → (other : ℕ) (x : A) → stored (slice_set items (who - 1) item) other ≡ Some x → P other x
 each_written P items who item first within each new other x is = elim (eqb_tells other who) [
   | inl same ↦

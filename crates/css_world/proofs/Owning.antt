@@ -99,8 +99,7 @@ read_lane who lines now reading at takes is own setup floor after_sleep =
 -- and after a sleep
 pub slept_lane : {header : Header} {lane new : Lane} (who : ℕ) (lines : List Numbered) (now : Numbered)
     → now.line.who ≡ who → now.line.verb ≡ Sleep → IsLaneOf header who (seen_of who (now ∷ lines)) lane
-    → companions.own_of new.companion ≡ companions.own_of lane.companion
-    → new.companion.setup ≡ lane.companion.setup
+    → companions.own_of new.companion ≡ companions.own_of lane.companion → new.companion.setup ≡ lane.companion.setup
     → new.companion.client.floor ≡ max lane.companion.client.floor lane.companion.client.after_sleep
     → new.companion.client.after_sleep ≡ lane.companion.client.after_sleep
     → IsLaneOf header who (seen_of who (now ∷ lines)) new

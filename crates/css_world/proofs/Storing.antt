@@ -83,8 +83,7 @@ pushed {A = A} {B = B} see items newest_first item seen are is = record { count 
 
 -- The item of a number is taken out, and is seen as none from then on.
 pub spent_stored : {A B : Type 0} (see after : ℕ → A → Option B) (items : List (Option B))
-    (newest_first : List A) (number : ℕ)
-    → ((item : A) → after number item ≡ None)
+    (newest_first : List A) (number : ℕ) → ((item : A) → after number item ≡ None)
     → ((other : ℕ) (item : A) → number ≢ other → after other item ≡ see other item)
     → AreStored see items newest_first → AreStored after (spent items number) newest_first
 spent_stored {A = A} {B = B} see after items newest_first number gone rest are = record {

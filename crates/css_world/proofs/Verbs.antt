@@ -37,15 +37,13 @@ carried-when header lines who verb can =
 
 -- and what can't isn't
 pub carried-not : (header : Header) (lines : List Numbered) (who : ℕ) (verb : Verb)
-    → can_happen header lines who verb ≡ false
-    → carried header lines who verb ≡ Err Absent
+    → can_happen header lines who verb ≡ false → carried header lines who verb ≡ Err Absent
 carried-not header lines who verb cannot =
     ap (λ b. cond b (played (events_of header lines) (event_at header lines who verb)) (Err Absent)) cannot
 
 -- a call that tells why a line isn't carried out
 pub refuses : (old new : Kept) (result : Result (Unit {0}) WorldFault) (lines : List Numbered) (now : Numbered)
-    (who : ℕ) (verb : Verb) (fault : WorldFault)
-    → result ≡ Err fault → (carried old.header lines who verb ≡ Err fault)
+    (who : ℕ) (verb : Verb) (fault : WorldFault) → result ≡ Err fault → (carried old.header lines who verb ≡ Err fault)
     ⊎ (fault ≡ Memory) → Carries old new result lines now who verb
 refuses old new result lines now who verb fault is why = rw is (record { answer = why; are = tt; ends = tt })
 
@@ -256,8 +254,7 @@ module _ (header : Header) (lines : List Numbered) (who : ℕ) where
 
   -- so it is of the companion's texts
   pub can-raise : (old : Session) (text : List ℕ) → SessionStands (ts_of who) events own old
-      → first_in old.phase old.up ≡ Some text
-      → (is_open (ts_of who) own ≡ true) × (next_up who events own ≡ Some text)
+      → first_in old.phase old.up ≡ Some text → (is_open (ts_of who) own ≡ true) × (next_up who events own ≡ Some text)
       × (can_happen header lines who Up ≡ true)
   can-raise old text stands is =
       given-text (is_open (ts_of who) own) (next_up who events own) text (sym (first-up stands) ∙ is)
@@ -265,8 +262,7 @@ module _ (header : Header) (lines : List Numbered) (who : ℕ) where
   -- where none is, none goes up
   pub cannot-raise : (old : Session) → SessionStands (ts_of who) events own old → first_in old.phase old.up ≡ None
       → can_happen header lines who Up ≡ false
-  cannot-raise old stands is =
-      no-text (is_open (ts_of who) own) (next_up who events own) (sym (first-up stands) ∙ is)
+  cannot-raise old stands is = no-text (is_open (ts_of who) own) (next_up who events own) (sym (first-up stands) ∙ is)
 
   -- the next text of the companion is what happens at the television
   pub up-event : (text : List ℕ) → next_up who events own ≡ Some text

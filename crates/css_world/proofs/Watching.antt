@@ -184,8 +184,7 @@ clock_told {allowed} {near} {shown} now error result stands same is =
 pub wall_refused : (header : Header) (lines : List Numbered) (now : Numbered) (fault : WorldFault)
     → Err fault ≡ clock_verdict header.tv_error (seen_of_tv lines) (tv_seen now)
     → Err fault ≡ shown_tested header lines now
-wall_refused header lines now fault is =
-    ap (λ v. result_and v (own_shown_tested header lines now)) is
+wall_refused header lines now fault is = ap (λ v. result_and v (own_shown_tested header lines now)) is
 
 -- where it isn't, the companion's clock decides
 pub own_shown : (header : Header) (lines : List Numbered) (now : Numbered) (result : Result (Unit {0}) WorldFault)
@@ -240,8 +239,7 @@ tv_awake (now ∷ older) =
 
 -- what a watch answers of a reading
 watch_read : {allowed near : ℕ} {shown read : List Seen} {watch : Watch} (number at reading : ℕ)
-    → WatchStands allowed near shown read watch
-    → read_verdict number watch.precision at watch.woken watch.last reading
+    → WatchStands allowed near shown read watch → read_verdict number watch.precision at watch.woken watch.last reading
     ≡ read_verdict number near at (has_woken read) (last_reading read) reading
 watch_read {allowed} {near} {shown} {read} {watch} number at reading is =
     ap (λ p. read_verdict number p at watch.woken watch.last reading) is.precision

@@ -7,8 +7,7 @@ use Rattle.css_world.proofs.printed.print_span.Goals as goal
 told : (before after : List ℕ) (number : ℕ) (lo hi : ℤ) (w : ℕ) (low high : ℤ) → low ≡ lo → high ≡ hi
     → after ≡ before ++ ends_line number (codes " wall ") low high (decimal w)
     → after ≡ before ++ wall_line number (record { lo = lo; hi = hi }) w
-told before after number lo hi w low high a b written =
-    rw a at (rw b at written)
+told before after number lo hi w low high a b written = rw a at (rw b at written)
 
 pub returns-clause-ok : goal.returns-clause-ok
 returns-clause-ok c =

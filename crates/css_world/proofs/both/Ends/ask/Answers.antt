@@ -48,8 +48,7 @@ returns-in_err-push-2-clause-carries c = λ header lines now own is ready may.
     c.from_residual-in_err-push-2.ensures.1
 
 pub returns-in_err-push-clause-refused : goal.returns-in_err-push-clause-refused
-returns-in_err-push-clause-refused c =
-    refused_memory _ _ c.from_residual.result c.from_residual.ensures.1
+returns-in_err-push-clause-refused c = refused_memory _ _ c.from_residual.result c.from_residual.ensures.1
 
 pub returns-in_err-push-2-clause-refused : goal.returns-in_err-push-2-clause-refused
 returns-in_err-push-2-clause-refused c =

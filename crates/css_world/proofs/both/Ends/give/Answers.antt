@@ -65,9 +65,7 @@ returns-clause-carries c = λ who header lines now own is ready may.
     }
 
 pub returns-in_default-give-clause-refused : goal.returns-in_default-give-clause-refused
-returns-in_default-give-clause-refused c =
-    record { tv = c.give.ensures.rest; companions = refl }
+returns-in_default-give-clause-refused c = record { tv = c.give.ensures.rest; companions = refl }
 
 pub returns-in_err-store_answer-clause-refused : goal.returns-in_err-store_answer-clause-refused
-returns-in_err-store_answer-clause-refused c =
-    refused_memory _ _ c.from_residual.result c.from_residual.ensures.1
+returns-in_err-store_answer-clause-refused c = refused_memory _ _ c.from_residual.result c.from_residual.ensures.1

@@ -64,5 +64,4 @@ returns-in_err-land-clause-carries c = λ header lines now own is ready may.
     c.from_residual.ensures.1
 
 pub returns-in_err-land-clause-refused : goal.returns-in_err-land-clause-refused
-returns-in_err-land-clause-refused c =
-    refused_memory _ _ c.from_residual.result c.from_residual.ensures.1
+returns-in_err-land-clause-refused c = refused_memory _ _ c.from_residual.result c.from_residual.ensures.1

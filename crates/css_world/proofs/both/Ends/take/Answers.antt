@@ -90,8 +90,7 @@ returns-clause-carries c = λ who header lines now own is ready may.
     }
 
 pub returns-in_err-take-clause-refused : goal.returns-in_err-take-clause-refused
-returns-in_err-take-clause-refused c =
-    refused_memory _ _ c.from_residual.result c.from_residual.ensures.1
+returns-in_err-take-clause-refused c = refused_memory _ _ c.from_residual.result c.from_residual.ensures.1
 
 pub returns-in_err-push-clause-refused : goal.returns-in_err-push-clause-refused
 returns-in_err-push-clause-refused c =
