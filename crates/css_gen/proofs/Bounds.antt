@@ -22,12 +22,7 @@ chosen-within choice lines course h =
     let requests = h.requests in
     let takes = h.takes in
     let answers = h.answers in
-    record {
-      time = grind arith;
-      requests = grind arith;
-      takes = grind arith;
-      answers = grind (arith, nat_tests);
-    }
+    record { time = grind arith; requests = grind arith; takes = grind arith; answers = grind (arith, nat_tests) }
 
 pub later-grown : (lines : ℕ) (course : Course) → IsWithin lines course → IsGrown lines (later course)
 unfolding later

@@ -81,12 +81,7 @@ chosen_of-within choice lines made course h =
     let requests = h.requests in
     let takes = h.takes in
     let answers = h.answers in
-    record {
-      time = grind arith;
-      requests = grind arith;
-      takes = grind arith;
-      answers = grind (arith, nat_tests);
-    }
+    record { time = grind arith; requests = grind arith; takes = grind arith; answers = grind (arith, nat_tests) }
 
 happening_of-within : (lines : ℕ) (askers : List ℕ) (turn : Turn) → IsGrown lines turn.course
     → IsWithin (suc lines) (happening_of askers turn).course

@@ -165,12 +165,7 @@ verb-range number =
     by false false false false false false false = tt
 
 pub opening-range : (number : ℕ) → IsLine (opening_line number)
-opening-range number = record {
-  t = omega arith;
-  w = omega arith;
-  l = omega arith;
-  verb = verb-range number;
-}
+opening-range number = record { t = omega arith; w = omega arith; l = omega arith; verb = verb-range number }
 
 -- ---- both
 pub line-range : (seed number : ℕ) → number ≤ 200000 → IsLine (line_numbered seed number)

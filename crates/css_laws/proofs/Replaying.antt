@@ -116,12 +116,7 @@ one-more seed companions lines number extent next so_far printed within before i
         short-line replayed texts text end long ∙ simp (place, before.far, meant) in
         record {
           far = simp (reached-push texts text, place, before.far, reaches);
-          so_far = simp (
-            outcome_from-append replayed [] texts (text ∷ []),
-            before.so_far,
-            line,
-            append-nil printed,
-          );
+          so_far = simp (outcome_from-append replayed [] texts (text ∷ []), before.so_far, line, append-nil printed);
           count = omega (arith, count, length-append texts (text ∷ []));
           few = omega (arith, few, short, offset-push texts text);
           free = free-push texts text before.free plain.free;

@@ -67,13 +67,7 @@ line-turned text line free e =
       free = both-free a (32 ∷ (b ++ last)) (first-free text free) (space-free (b ++ last)
           (both-free b last (first-free (other_words text) (others-free text free))
           (one-free (32 ∷ rest) (space-free rest (later-free text free)))));
-      size = omega (
-        arith,
-        sizes_one,
-        sizes_two,
-        length-append a (32 ∷ (b ++ last)),
-        length-append b last,
-      );
+      size = omega (arith, sizes_one, sizes_two, length-append a (32 ∷ (b ++ last)), length-append b last);
       least = omega (arith, sizes_one, sizes_two, sizes_three);
     }
 

@@ -189,7 +189,4 @@ in_step header lines who wall first declared accepted all =
     let is = assigned_is header who first events own order wall all.cii_open all.ts_open all.set_up all.states
     all.controls in
     let tick = assigned_at who header lines wall in
-    record {
-      published = is;
-      shown = shown_if (setup_of who header) (shown_after events) wall tick playable (sym is);
-    }
+    record { published = is; shown = shown_if (setup_of who header) (shown_after events) wall tick playable (sym is) }

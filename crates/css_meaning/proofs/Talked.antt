@@ -167,10 +167,7 @@ module _ (header : Header) (who : ℕ) (first : 1 ≤ who) (events : List TvEven
             (λ b. HasCii (kind_of cii own) b (lived_after cii new)) (sym
             (dialled-open_apart cii ts other session.Ts own)) (cii_on e one));
         ts = rw (dialled-kind ts session.Ts own) (rw (dialled-open ts session.Ts own) opened);
-        written = rw writes (
-          rw was.written (setup_reads setup utf8),
-          before.written,
-        );
+        written = rw writes (rw was.written (setup_reads setup utf8), before.written);
         shows = rw opens.life (λ live. tt);
       }
 

@@ -118,12 +118,7 @@ sent-now : (header : Header) (who : ℕ) (older : List Numbered) (reading : ℕ)
 sent-now header who older reading range =
     inl (
       request_by-sent reading range,
-      record {
-        reading = reading;
-        before = history_of who header older;
-        just_before = refl;
-        same = refl;
-      },
+      record { reading = reading; before = history_of who header older; just_before = refl; same = refl },
       refl,
     )
 

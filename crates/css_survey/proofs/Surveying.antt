@@ -174,10 +174,7 @@ has_taken (Err e) old new seed companions given line some within few has is same
 has_taken (Ok x) old new seed companions given line some within few has is same stands =
     let next = next-accepted old seed companions given line some within few has is in
     let taken = stands (generated seed companions (given - heading companions)) has.stands next.2 in
-    record {
-      header = same ∙ has.header;
-      stands = rw (one-generated seed companions given within) (rw is at taken);
-    }
+    record { header = same ∙ has.header; stands = rw (one-generated seed companions given within) (rw is at taken) }
 
 -- ---- the header
 -- the world of the header can be opened

@@ -228,13 +228,7 @@ module _ {header : Header} {old shown read : Clocks} {ends new : Ends} {before a
         clocks = steps.read_to header (now ∷ lines) lines (steps.shown_to header lines stands.clocks);
         ready = record {
           declared = stands.ready.declared;
-          accepted = (
-            steps.range,
-            steps.of,
-            next,
-            (ok.0, meant lines steps stands ∙ ok.1),
-            stands.ready.accepted,
-          );
+          accepted = (steps.range, steps.of, next, (ok.0, meant lines steps stands ∙ ok.1), stands.ready.accepted);
           are = done.are;
           ends = done.ends;
         };
