@@ -20,7 +20,7 @@ pub use Rattle.css_schedule.specs.declared.header.Start.{Start}
 pub use Rattle.css_schedule.specs.declared.header.Start.TheVariants.{One, Two}
 pub use Rattle.css_schedule.specs.declared.line.Line.{Line}
 pub use Rattle.css_schedule.specs.declared.line.Verb.{Verb}
-pub use Rattle.css_schedule.specs.declared.line.Verb.TheVariants.{Ask, Wall, Programme, Timeline, Viewer, Up, Present}
+pub use Rattle.css_schedule.specs.declared.line.Verb.TheVariants.{Ask, Wall, Programme, Timeline, Viewer, Present}
 pub use Rattle.css_schedule.specs.declared.line.Verb.TheVariants.{Sleep, Take, Give, Land, Print}
 pub use Rattle.css_migrate.specs.Migrated.{fed, line_turned, header_turned, header_becomes, line_becomes, text_becomes}
 pub use Rattle.css_migrate.specs.Migrated.{migrated, first_word, other_words, later_words, three_words}

@@ -22,7 +22,7 @@ use Rattle.css_gen.specs.declared.course.Course.{Course}
 use Rattle.css_gen.proofs.Crowds.{crowd-companions}
 use Rattle.css_survey.specs.Generated.{heading, version_for, line_for}
 use Rattle.css_laws.proofs.Names.{list_all, nat_tests, length-append, All-cons, All-append, is_feed, HasNoFeed, LIMIT}
-use Rattle.css_laws.proofs.Names.{with_words, Line, Verb, Ask, Wall, Programme, Timeline, Viewer, Up, Present, Sleep}
+use Rattle.css_laws.proofs.Names.{with_words, Line, Verb, Ask, Wall, Programme, Timeline, Viewer, Present}
 use Rattle.css_laws.proofs.Runs.{free-by}
 
 -- ---- words
@@ -118,8 +118,6 @@ words-plain (Timeline programme selector rate (negsuc base)) range e = absurd (c
 words-plain (Viewer reading (commands.Speed speed)) range e = absurd (cc)
 words-plain (Viewer reading (commands.Seek media)) range e = absurd (cc)
 words-plain (Present earliest latest) range e = absurd (cc)
-words-plain Up range e = plain-all (verb_words Up) refl
-words-plain Sleep range e = plain-all (verb_words Sleep) refl
 words-plain _ range e = (plain-by _ refl, search (rules, number-plain, ordinal-plain, kind-plain))
 
 few-words : (verb : Verb) → length (verb_words verb) ≤ 6

@@ -1,5 +1,5 @@
 -- What becomes of a line depends on lines' numbers only where it names them.
-use Rattle.std.proofs.Common.{◌≡◌, ℕ, ◌+◌, ap, sym, ◌∙◌, refl, Bool, true, false, cond, List}
+use Rattle.std.proofs.Common.{arith, ◌≡◌, ℕ, ◌+◌, ap, sym, ◌∙◌, refl, Bool, true, false, cond, List}
 use Rattle.std.specs.Prelude.{◌&&◌, Option, Some, None, Result, Ok, Err}
 use Rattle.css_model.specs.History.{accepted_answers}
 use Rattle.css_span.specs.WallSpans.{wall_span}
@@ -41,9 +41,7 @@ said_with header ends line _ = Nothing
 
 printed-with : (header : Header) (older : List Numbered) (now : Numbered) (verb : Verb)
     → printed_for header older now verb ≡ said_text now.number (said_with header (ends_of header older) now.line verb)
-printed-with header older now (Wall r) = refl
-printed-with header older now (Print r) = refl
-printed-with header older now _ = refl
+printed-with header older now verb = grind arith
 
 -- ---- the line
 -- what becomes of a line that can be exchanged, after what the ends did, where this is said
@@ -77,8 +75,7 @@ carried-map {A} f rename keeps ends who verb exchange said =
 
 -- a test that is renamed to itself
 same-test : (test : Result (Unit {0}) WorldFault) → test ≡ result_map_both (λ u. u) (λ fault. fault) test
-same-test (Ok u) = refl
-same-test (Err fault) = refl
+same-test test = grind arith
 
 -- the law
 pub numbers_raised : NumbersDontMatter

@@ -117,19 +117,19 @@ wall-begins number span w =
 -- ---- reports
 name-free : (name : TsName) → HasNoFeed (json_name name)
 name-free ContentIdStem = free-by (codes "contentIdStem") refl
-name-free _ = free-by _ refl
+name-free name = free-by (json_name name) refl
 
 fault-free : (f : TsFault) → HasNoFeed (fault_words f)
 fault-free (fault.Field name) =
     join-free (codes "Field ") (json_name name) (free-by (codes "Field ") refl) (name-free name)
 fault-free (fault.Range name) =
     join-free (codes "Range ") (json_name name) (free-by (codes "Range ") refl) (name-free name)
-fault-free _ = free-by _ refl
+fault-free f = free-by (fault_words f) refl
 
 cause-free : (c : Cause) → HasNoFeed (cause_words c)
 cause-free (cause.Unreadable f) =
     join-free (codes "Unreadable ") (fault_words f) (free-by (codes "Unreadable ") refl) (fault-free f)
-cause-free _ = free-by _ refl
+cause-free c = free-by (cause_words c) refl
 
 position-free : (assigned : Option ℤ) → HasNoFeed (at_position assigned)
 position-free None = All-nil (λ byte. is_feed byte ≡ false)

@@ -1,5 +1,5 @@
 -- What lines tell of clocks and say that the ends did, with their numbers raised by one.
-use Rattle.std.proofs.Common.{◌≡◌, ℕ, ◌+◌, refl, arith, Bool, true, false, List, [], ◌∷◌}
+use Rattle.std.proofs.Common.{◌≡◌, ℕ, ◌+◌, refl, arith, Bool, false, List, [], ◌∷◌}
 use Rattle.std.specs.Prelude.{Option, Some, None, map, ℤ, neg_ℤ, Result, Ok, Err}
 use Rattle.std.specs.Option.{option_map, option_or}
 use Rattle.css_model.specs.WallClock.{lesser}
@@ -52,8 +52,7 @@ seen_of-raised who (now ∷ older) = grind (arith, seen_of-raised who older)
 -- what a drift is told
 told_with-raised : (woke : Bool) (told : List Told) → told_with woke (map raised_told told)
     ≡ map raised_told (told_with woke told)
-told_with-raised true told = refl
-told_with-raised false told = refl
+told_with-raised woke told = grind arith
 
 told_by-raised : (seen : List Seen) → told_by (map raised_seen seen) ≡ map raised_told (told_by seen)
 told_by-raised [] = refl
@@ -87,14 +86,12 @@ worst-raised error (newer ∷ older) now =
 
 time-raised : (last : Option Shown) (now : Shown) → time_verdict (option_map raised_shown last) (raised_shown now)
     ≡ result_map_both (λ x. x) raised_drift (time_verdict last now)
-time-raised None now = refl
-time-raised (Some last) now = grind arith
+time-raised last now = grind arith
 
 drift-raised : (error : ℕ) (earlier : Option Shown) (now : Shown)
     → drift_verdict error (option_map raised_shown earlier) (raised_shown now)
     ≡ result_map_both (λ x. x) raised_drift (drift_verdict error earlier now)
-drift-raised error None now = refl
-drift-raised error (Some earlier) now = grind arith
+drift-raised error earlier now = grind arith
 
 -- one test after another, where both tell their faults so
 pub both-raised : {T U V E : Type 0} (rename : E → E) (f : T → T) (g : U → V) (a : Result T E) (b : Result U E)
@@ -135,8 +132,7 @@ clock_verdict-raised error earlier now =
 reading_at-raised : (value : Option ℕ) (number : ℕ) (last : Option Reading)
     → option_or (option_map (λ v. record { line = number + 1; value = v }) value) (option_map raised_reading last)
     ≡ option_map raised_reading (option_or (option_map (λ v. record { line = number; value = v }) value) last)
-reading_at-raised None number last = refl
-reading_at-raised (Some v) number last = refl
+reading_at-raised value number last = grind arith
 
 last_reading-raised : (seen : List Seen) → last_reading (map raised_seen seen)
     ≡ option_map raised_reading (last_reading seen)
@@ -154,8 +150,7 @@ near-raised number precision shown reading = grind arith
 
 order-raised : (woken : Bool) (last : Option Reading) (reading : ℕ)
     → order_verdict woken (option_map raised_reading last) reading ≡ raised_test (order_verdict woken last reading)
-order-raised woken None reading = refl
-order-raised woken (Some last) reading = grind arith
+order-raised woken last reading = grind arith
 
 reading_verdict-raised : (number precision shown : ℕ) (woken : Bool) (last : Option Reading) (reading : Option ℕ)
     → reading_verdict (number + 1) precision shown woken (option_map raised_reading last) reading
