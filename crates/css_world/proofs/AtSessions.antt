@@ -54,7 +54,8 @@ pub stands_at : {ends : Both} {lines : List Numbered} (ready : IsReady ends line
     → stored ends.lanes who ≡ Some lane
     → SessionStands (peer_of who k) (events_of ends.header lines) (history_of who ends.header lines) (session_at k lane)
 stands_at {ends} {lines} ready who k {lane} found =
-    at_kind k who (events_of ends.header lines) (history_of who ends.header lines) lane (ready.ends.lanes who lane found)
+    at_kind k who (events_of ends.header lines) (history_of who ends.header lines) lane
+    (ready.ends.lanes who lane found)
 
 played_at : (k : Kind) (who : ℕ) (events : List TvEvent) (e : TvEvent) (old new : Lane) → IsPlayed who events e old new
     → HasNews (peer_of who k) events e (session_at k old) (session_at k new)

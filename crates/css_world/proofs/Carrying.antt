@@ -52,8 +52,8 @@ module _ (header : Header) (lines : List Numbered) (number t w who l : ℕ) (ver
   abbrev does : ℕ → History
   does n = done_by header n (datagrams header lines) (events_of header lines) verb (did n)
 
-  -- Where the verb adds nothing to a history, whosever line it is, all lanes stand for their histories, if they stand for
-  -- what happened at the television.
+  -- Where the verb adds nothing to a history, whosever line it is, all lanes stand for their histories, if they stand
+  -- for what happened at the television.
   pub all_lanes : (lanes : List Lane) → ((n : ℕ) → does n ≡ did n)
       → LanesStand (events_of header after) (histories header lines) lanes
       → LanesStand (events_of header after) (histories header after) lanes
