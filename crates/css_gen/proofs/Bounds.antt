@@ -22,12 +22,7 @@ chosen-within choice lines course h =
     let requests = h.requests in
     let takes = h.takes in
     let answers = h.answers in
-    record {
-      time = grind arith;
-      requests = grind arith;
-      takes = grind arith;
-      answers = grind (arith, nat_tests);
-    }
+    record { time = grind arith; requests = grind arith; takes = grind arith; answers = grind (arith, nat_tests) }
 
 pub later-grown : (lines : ℕ) (course : Course) → IsWithin lines course → IsGrown lines (later course)
 unfolding later
@@ -35,8 +30,7 @@ later-grown lines course h =
     let below = draw-below 9000000 course.words (omega arith) in
     record { time = omega arith; requests = h.requests; takes = h.takes; answers = h.answers }
 
-happening-within : (lines : ℕ) (course : Course) → IsGrown lines course
-    → IsWithin (suc lines) (happening course).course
+happening-within : (lines : ℕ) (course : Course) → IsGrown lines course → IsWithin (suc lines) (happening course).course
 unfolding happening
 happening-within lines course h =
     let choice = draw 8 course.words in

@@ -28,8 +28,7 @@ ceiling-is : (t : ℕ) → let q = (12800 * t + 255999999) / 256000000 in
 ceiling-is t = (omega arith, omega arith)
 
 -- from one true time to a later one the clock keeps its error
-pub clock-keeps : (fast : Bool) (t t' : ℕ) → t ≤ t'
-    → let v = clock fast t in let v' = clock fast t' in
+pub clock-keeps : (fast : Bool) (t t' : ℕ) → t ≤ t' → let v = clock fast t in let v' = clock fast t' in
     (256000000 * (v' + t) ≤ 256000000 * (v + t') + (12800 * (t' - t) + 256000000))
     × (256000000 * (v + t') ≤ 256000000 * (v' + t) + (12800 * (t' - t) + 256000000))
 unfolding clock

@@ -72,13 +72,23 @@ goes_on seed given crowd follows =
     subst (λ (n : ℕ). Follows (n == 1) seed (given + 1) (crowd_with crowd (given + 1)))
     (sym (companions-kept crowd (given + 1))) (by (crowd.companions == 1) follows)
   where
-    by : (one : Bool) → Follows one seed given crowd
-        → Follows one seed (given + 1)
+    by : (one : Bool) → Follows one seed given crowd → Follows one seed (given + 1)
         (if one then record crowd { course = course_from crowd.course (given + 1) } else crowd_from crowd (given + 1))
     by true h = ap (λ (c : Course). course_from c (given + 1)) h ∙ course-goes_on seed given
     by false h =
         crowd-goes_on seed given crowd h
         ∙ ap (λ (n : ℕ). crowd_after seed n (given + 1 - openings n)) (sym (from-kept crowd (given + 1)))
+
+-- so does its generator
+pub next-is : (seed lines given : ℕ) (crowd next : Crowd) → IsGenerator seed lines given crowd
+    → next ≡ crowd_with crowd (given + 1) → IsGenerator seed lines (given + 1) next
+next-is seed lines given crowd next is same = record {
+  few = is.few;
+  companions = subst AreSome (sym (ap (λ (x : Crowd). x.companions) same ∙ companions-kept crowd (given + 1)))
+      is.companions;
+  follows = subst (λ (x : Crowd). Follows (x.companions == 1) seed (given + 1) x) (sym same)
+      (goes_on seed given crowd is.follows);
+}
 
 -- a line more can be given
 pub can_give : (seed given : ℕ) (crowd : Crowd) → AreSome crowd.companions → given ≤ 200000
@@ -104,8 +114,7 @@ text_with-is seed given crowd = by (crowd.companions == 1)
 
 -- so it is what comes next
 pub text-next : (seed lines given : ℕ) (crowd : Crowd) (text : List ℕ) → given < lines
-    → Follows (crowd.companions == 1) seed given crowd → text ≡ text_with crowd (given + 1)
-    → Some text
+    → Follows (crowd.companions == 1) seed given crowd → text ≡ text_with crowd (given + 1) → Some text
     ≡ next_text (record { seed = seed; lines = lines; companions = crowd.companions; given = given })
 text-next seed lines given crowd text before follows is =
     let next : Option (List ℕ) = Some (text_in seed crowd.companions (given + 1)) in

@@ -82,8 +82,7 @@ chosen_of-range : (choice : ℕ) (made : List ℕ) (course : Course) → CanHapp
 unfolding chosen_of
 chosen_of-range choice made course h all = by (nat_lt choice 4) (nat_lt choice 6) (nat_lt choice 8)
   where
-    by : (a b c : Bool)
-        → IsVerb
+    by : (a b c : Bool) → IsVerb
         (if a then chosen choice course
         else if b then landed_of made course
         else if c then printed course
@@ -162,8 +161,7 @@ next-few crowd h =
 pub placed-range : (place : ℕ) → IsLine (line_placed place)
 placed-range place = by (nat_lt place 5)
   where
-    by : (b : Bool)
-        → IsLine (if b then clock_line 0 0 place else clock_line (place / 5) 1000000000 (5 + place % 5))
+    by : (b : Bool) → IsLine (if b then clock_line 0 0 place else clock_line (place / 5) 1000000000 (5 + place % 5))
     by true = record { t = omega arith; w = omega arith; l = omega arith; verb = verb-range place }
     by false = record { t = omega arith; w = omega arith; l = omega arith; verb = verb-range (5 + place % 5) }
 

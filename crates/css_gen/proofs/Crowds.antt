@@ -30,14 +30,12 @@ pub record IsCounted (course : Course) (happening : Happening) : Type 0 where
   pub known : IsKnown course.requests happening.verb
 
 senders-counted : (choice : ℕ) (made : List ℕ) (course : Course) (senders : List ℕ) (who : ℕ)
-    → length senders ≡ course.requests
-    → length (senders_after senders who (chosen_of choice made course).verb)
+    → length senders ≡ course.requests → length (senders_after senders who (chosen_of choice made course).verb)
     ≡ (chosen_of choice made course).course.requests
 unfolding chosen_of chosen
 senders-counted choice made course senders who is = grind (arith, length-more)
 
-askers-counted : (choice : ℕ) (made : List ℕ) (course : Course) (senders askers : List ℕ)
-    → length askers ≡ course.takes
+askers-counted : (choice : ℕ) (made : List ℕ) (course : Course) (senders askers : List ℕ) → length askers ≡ course.takes
     → length (askers_after senders askers (chosen_of choice made course).verb)
     ≡ (chosen_of choice made course).course.takes
 unfolding chosen_of chosen
@@ -83,12 +81,7 @@ chosen_of-within choice lines made course h =
     let requests = h.requests in
     let takes = h.takes in
     let answers = h.answers in
-    record {
-      time = grind arith;
-      requests = grind arith;
-      takes = grind arith;
-      answers = grind (arith, nat_tests);
-    }
+    record { time = grind arith; requests = grind arith; takes = grind arith; answers = grind (arith, nat_tests) }
 
 happening_of-within : (lines : ℕ) (askers : List ℕ) (turn : Turn) → IsGrown lines turn.course
     → IsWithin (suc lines) (happening_of askers turn).course

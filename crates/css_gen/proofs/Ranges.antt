@@ -78,8 +78,7 @@ pub chosen-range : (choice : ℕ) (course : Course) → CanHappen course → IsV
 unfolding chosen
 chosen-range choice course h = by (nat_lt choice 2) (choice == 2) (choice == 3) (nat_lt choice 6)
   where
-    by : (a b c d : Bool)
-        → IsVerb
+    by : (a b c d : Bool) → IsVerb
         (if a then asked course
         else if b then taken course
         else if c then given course
@@ -142,8 +141,7 @@ verb-range number =
       second_small = omega arith;
     }
 
-    by : (a b c d e f g : Bool)
-        → IsVerb
+    by : (a b c d e f g : Bool) → IsVerb
         (if a then Programme (codes "dvb://1.2.3")
         else if b then Timeline 1 pts (record { units_per_tick = 1; units_per_second = 90000 }) (pos 0)
         else if c then Viewer 1000000000 (Change 1)
@@ -167,12 +165,7 @@ verb-range number =
     by false false false false false false false = tt
 
 pub opening-range : (number : ℕ) → IsLine (opening_line number)
-opening-range number = record {
-  t = omega arith;
-  w = omega arith;
-  l = omega arith;
-  verb = verb-range number;
-}
+opening-range number = record { t = omega arith; w = omega arith; l = omega arith; verb = verb-range number }
 
 -- ---- both
 pub line-range : (seed number : ℕ) → number ≤ 200000 → IsLine (line_numbered seed number)

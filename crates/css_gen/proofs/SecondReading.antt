@@ -106,10 +106,7 @@ companion-back who few =
       decimal-solid who (omega (arith, few)),
       (
         decimal-solid 12800 (omega arith),
-        (
-          decimal-solid 1000 (omega arith),
-          (graphic-solid pts refl, (graphic-solid (codes "dvb://") refl, tt)),
-        ),
+        (decimal-solid 1000 (omega arith), (graphic-solid pts refl, (graphic-solid (codes "dvb://") refl, tt))),
       ),
     ) in
     ap (numbered_of_words who) (words_of-with_words (codes "companion") words (graphic-solid (codes "companion") refl)

@@ -1,34 +1,21 @@
 -- A replay of a migrated schedule says the same as one of the schedule, line after line.
 use Rattle.std.proofs.Common.{◌≡◌, ℕ, ◌+◌, ◌*◌, ◌≤◌, arith, ap, sym, subst, ◌∙◌, refl, List, [], ◌∷◌, ◌++◌, length, map}
 use Rattle.std.proofs.Common.{append_assoc, append-nil, Option, Some, None, Result, Ok, Err, eq-eqb, option_map}
-use Rattle.std.specs.Result.{result_map_both}
-use Rattle.std.proofs.lemmas.List.{length-append}
-use Rattle.std.proofs.lemmas.List.Concat.{flat_map-append}
-use Rattle.css_lines.specs.Lines.{whole_lines, last_part}
 use Rattle.css_lines.specs.Meaning.{Outcome, accepted, followed_from, followed_by, offset, reader_outcome, line_outcome}
 use Rattle.css_lines.specs.Meaning.{finish_outcome, outcome}
-use Rattle.css_lines.specs.declared.reader.Refusal.{Refusal}
-use Rattle.css_schedule.specs.declared.fault.LineFault.{LineFault}
-use Rattle.css_schedule.specs.declared.header.CompanionLine.{CompanionLine}
-use Rattle.css_schedule.specs.declared.header.Header.{Header}
-use Rattle.css_schedule.specs.declared.header.Start.{Start}
-use Rattle.css_schedule.specs.declared.header.Start.TheVariants.{One, Two}
-use Rattle.css_schedule.specs.declared.line.Line.{Line}
-use Rattle.css_schedule.specs.Headers.{header_of, companion_of}
 use Rattle.css_schedule.specs.Lines.{line_of, line_in}
-use Rattle.css_migrate.specs.Migrated.{fed, line_turned, header_turned, header_becomes, line_becomes, text_becomes}
-use Rattle.css_migrate.specs.Migrated.{migrated}
 use Rattle.css_migrate.specs.declared.migrate.NoLine.{NoLine}
-use Rattle.css_meaning.specs.Happened.{Numbered}
 use Rattle.css_meaning.specs.Verdicts.{line_meant}
-use Rattle.css_meaning.specs.declared.fault.WorldFault.{WorldFault}
 use Rattle.css_meaning.specs.declared.fault.WorldFault.TheVariants as world
 use Rattle.css_replay.specs.declared.reader.Cause.{Cause}
 use Rattle.css_replay.specs.Replayed.{Extent, Running, caused, ended_at, longest_input, longest_line, reached, replayed}
 use Rattle.css_replay.specs.Replayed.{started, next_companion}
-use Rattle.css_replay.proofs.Texts.{reached-push}
 use Rattle.css_laws.specs.Numbers.{raised_lines, raised_fault, Said, said_text, MeanAlike}
 use Rattle.css_laws.specs.Raised.{IsRaised, raised_verdict, said_texts, raised_texts, MigratedSchedulesAreReplayedAlike}
+use Rattle.css_laws.proofs.Names.{result_map_both, length-append, flat_map-append, whole_lines, last_part, Refusal}
+use Rattle.css_laws.proofs.Names.{LineFault, CompanionLine, Header, Start, One, Two, Line, header_of, companion_of, fed}
+use Rattle.css_laws.proofs.Names.{line_turned, header_turned, header_becomes, line_becomes, text_becomes, migrated}
+use Rattle.css_laws.proofs.Names.{Numbered, WorldFault, reached-push}
 use Rattle.css_laws.proofs.Raising.{numbers_raised}
 use Rattle.css_laws.proofs.Runs.{with_feed, steps_of, ran, outcome-ran, joined, AreFree, joined-ran, both-accepted}
 use Rattle.css_laws.proofs.Runs.{AreFreeSteps, input-free, IsTaken, line-taken, offset-push, within, not-long}
@@ -36,8 +23,7 @@ use Rattle.css_laws.proofs.Turned.{line-turned, IsOpened, header-turned, header-
 
 -- ---- outcomes
 -- one outcome after another
-followed-raised : (a b c d : Outcome Cause) → IsRaised a b → IsRaised c d
-    → IsRaised (followed_by a c) (followed_by b d)
+followed-raised : (a b c d : Outcome Cause) → IsRaised a b → IsRaised c d → IsRaised (followed_by a c) (followed_by b d)
 followed-raised a b c d h next =
     subst (λ (v : Option (ℕ × Refusal Cause)). IsRaised (followed_by a c) (followed_from b.printed v d)) (sym h.verdict)
     (by a.verdict)
@@ -91,8 +77,7 @@ line-at before header version lines text line end at one read fits inside =
 -- and how far the schedule is read with it
 line-reached : (before : List (List ℕ)) (header : Header) (version : ℕ) (lines : List Numbered) (text : List ℕ)
     (line : Line) → reached before ≡ Running header version lines → length header.companions ≡ 1
-    → line_in version 1 text ≡ Ok line
-    → reached (before ++ text ∷ [])
+    → line_in version 1 text ≡ Ok line → reached (before ++ text ∷ [])
     ≡ Running header version (record { number = length before + 1; line = line } ∷ lines)
 line-reached before header version lines text line at one read = simp (reached-push before text, at, one, read)
 
@@ -226,8 +211,7 @@ has-begun text header is =
     let none : length is.bare.companions ≡ 0 = ap (λ (l : List CompanionLine). length l) is.alone in
     let all : length (is.bare.companions ++ is.companion ∷ []) ≡ 1 =
     omega (arith, none, length-append is.bare.companions (is.companion ∷ [])) in
-    let next : next_companion is.bare b ≡ Ok is.companion =
-    ap (λ (n : ℕ). companion_of (n + 1) b) none ∙ is.next in
+    let next : next_companion is.bare b ≡ Ok is.companion = ap (λ (n : ℕ). companion_of (n + 1) b) none ∙ is.next in
     record {
       one = ap (λ (h : Header). length h.companions) (sym is.whole) ∙ all;
       whole = simp (is.start, next, eq-eqb (length (is.bare.companions ++ is.companion ∷ [])) 1 all, is.whole);

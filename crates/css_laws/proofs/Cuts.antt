@@ -1,13 +1,10 @@
 -- A text with words is its first word, a space, and the other words.
 use Rattle.std.proofs.Common.{◌≡◌, ℕ, ◌+◌, ◌<◌, arith, ap, ◌∙◌, Bool, true, false, cond, ltb, List, ◌∷◌, ◌++◌, length}
 use Rattle.std.proofs.Common.{refl, All, Some, None, ltb-true, eqb-true}
-use Rattle.std.specs.List.{position_or_len}
-use Rattle.std.proofs.lemmas.List.{get_or-take, length-append, length-take}
-use Rattle.std.proofs.lemmas.List.Splits.{slice_split_first}
 use Rattle.std.proofs.lemmas.List.Sums.{fails_before_first, passes_at_first, split_at_first}
 use Rattle.css_schedule.proofs.Cut.{words_of-one}
-use Rattle.css_schedule.specs.Words.{is_space, words_of}
-use Rattle.css_migrate.specs.Migrated.{first_word, other_words}
+use Rattle.css_laws.proofs.Names.{position_or_len, get_or-take, length-append, length-take, slice_split_first, is_space}
+use Rattle.css_laws.proofs.Names.{words_of, first_word, other_words}
 
 -- the first word is this one, and these are the words after it
 pub record IsCut (text word : List ℕ) (words : List (List ℕ)) : Type 0 where

@@ -1,3 +1,4 @@
+pub mod Names
 pub mod Readings
 pub mod Raising
 pub mod Runs

@@ -3,24 +3,12 @@ use Rattle.std.proofs.Common.{◌≡◌, ℕ, suc, ◌+◌, ◌-◌, ◌*◌, �
 use Rattle.std.proofs.Common.{rules, List, [], ◌∷◌, ◌++◌, length, ◌==◌, ◌&&◌, not, nat_le, pos, negsuc, codes, decimal}
 use Rattle.std.proofs.Common.{if◌then◌else◌, leb-true, eqb-true}
 use Rattle.std.specs.Fmt.{digits}
-use Rattle.std.specs.List.{list_all}
-use Rattle.std.proofs.lemmas.Bool.Decides.{nat_tests}
 use Rattle.std.proofs.lemmas.Fmt.{length-decimal-le}
-use Rattle.std.proofs.lemmas.List.{length-append}
-use Rattle.std.proofs.lemmas.List.Elements.{All-cons, All-append}
-use Rattle.css_lines.specs.Lines.{is_feed}
-use Rattle.css_lines.specs.Progress.{HasNoFeed}
-use Rattle.css_model.specs.declared.TheConstants.{LIMIT}
 use Rattle.css_player.specs.declared.command.Command.TheVariants as commands
 use Rattle.css_num.specs.declared.protocol.Kind.{Kind}
 use Rattle.css_num.specs.declared.protocol.Kind.TheVariants.{Cii, Ts}
 use Rattle.css_schedule.proofs.Graphic.{both}
-use Rattle.css_schedule.specs.Words.{with_words}
 use Rattle.css_schedule.specs.Ranges.{IsVerb, IsLine}
-use Rattle.css_schedule.specs.declared.line.Line.{Line}
-use Rattle.css_schedule.specs.declared.line.Verb.{Verb}
-use Rattle.css_schedule.specs.declared.line.Verb.TheVariants.{Ask, Wall, Programme, Timeline, Viewer, Up, Present}
-use Rattle.css_schedule.specs.declared.line.Verb.TheVariants.{Sleep}
 use Rattle.css_printed.proofs.Spaced.{line-free, decimal-solid}
 use Rattle.css_printed.specs.Printed.{kind_word, verb_words, clock_words, line_text_in, header_text, companion_words}
 use Rattle.css_printed.specs.Printed.{declared_words}
@@ -33,6 +21,8 @@ use Rattle.css_gen.specs.Standing.{AreSome}
 use Rattle.css_gen.specs.declared.course.Course.{Course}
 use Rattle.css_gen.proofs.Crowds.{crowd-companions}
 use Rattle.css_survey.specs.Generated.{heading, version_for, line_for}
+use Rattle.css_laws.proofs.Names.{list_all, nat_tests, length-append, All-cons, All-append, is_feed, HasNoFeed, LIMIT}
+use Rattle.css_laws.proofs.Names.{with_words, Line, Verb, Ask, Wall, Programme, Timeline, Viewer, Present}
 use Rattle.css_laws.proofs.Runs.{free-by}
 
 -- ---- words
@@ -128,8 +118,6 @@ words-plain (Timeline programme selector rate (negsuc base)) range e = absurd (c
 words-plain (Viewer reading (commands.Speed speed)) range e = absurd (cc)
 words-plain (Viewer reading (commands.Seek media)) range e = absurd (cc)
 words-plain (Present earliest latest) range e = absurd (cc)
-words-plain Up range e = plain-all (verb_words Up) refl
-words-plain Sleep range e = plain-all (verb_words Sleep) refl
 words-plain _ range e = (plain-by _ refl, search (rules, number-plain, ordinal-plain, kind-plain))
 
 few-words : (verb : Verb) → length (verb_words verb) ≤ 6

@@ -1,7 +1,6 @@
 -- What becomes of a line depends on lines' numbers only where it names them.
-use Rattle.std.proofs.Common.{◌≡◌, ℕ, ◌+◌, ap, sym, ◌∙◌, refl, Bool, true, false, cond, List}
+use Rattle.std.proofs.Common.{arith, ◌≡◌, ℕ, ◌+◌, ap, sym, ◌∙◌, refl, Bool, true, false, cond, List}
 use Rattle.std.specs.Prelude.{◌&&◌, Option, Some, None, Result, Ok, Err}
-use Rattle.std.specs.Result.{result_and, result_map_both}
 use Rattle.css_model.specs.History.{accepted_answers}
 use Rattle.css_span.specs.WallSpans.{wall_span}
 use Rattle.css_player.specs.declared.command.PlayerFault.{PlayerFault}
@@ -10,18 +9,14 @@ use Rattle.css_tv.specs.declared.event.TvEvent.{TvEvent}
 use Rattle.css_tv.specs.declared.fault.TvFault.{TvFault}
 use Rattle.css_tv.specs.declared.fault.TvFault.TheVariants as tv
 use Rattle.css_companion.specs.Meanings.{report_after, assigned_after}
-use Rattle.css_schedule.specs.declared.header.Header.{Header}
-use Rattle.css_schedule.specs.declared.line.Line.{Line}
-use Rattle.css_schedule.specs.declared.line.Verb.{Verb}
-use Rattle.css_schedule.specs.declared.line.Verb.TheVariants.{Take, Give, Land, Wall, Print}
-use Rattle.css_meaning.specs.declared.fault.WorldFault.{WorldFault}
 use Rattle.css_meaning.specs.declared.fault.WorldFault.TheVariants.{Absent, Player}
 use Rattle.css_meaning.specs.Sessions.{setup_of}
-use Rattle.css_meaning.specs.Happened.{Numbered, event_by, Ends, ends_of}
 use Rattle.css_meaning.specs.Verdicts.{local_of, tested, can_exchange, can_talk, refused_by, outcome_after, played}
 use Rattle.css_meaning.specs.Verdicts.{printed_for}
 use Rattle.css_laws.specs.Numbers.{raised_line, raised_lines, raised_fault, Said, Nothing, Span, Reported, said_text}
 use Rattle.css_laws.specs.Numbers.{NumbersDontMatter}
+use Rattle.css_laws.proofs.Names.{result_and, result_map_both, Header, Line, Verb, Take, Give, Land, Wall, Print}
+use Rattle.css_laws.proofs.Names.{WorldFault, Numbered, event_by, Ends, ends_of}
 use Rattle.css_laws.proofs.Readings.{raised_test, both-raised, requests-raised, tickets-raised, made_for-raised}
 use Rattle.css_laws.proofs.Readings.{is_given-raised, ends-raised, tested-raised}
 
@@ -46,9 +41,7 @@ said_with header ends line _ = Nothing
 
 printed-with : (header : Header) (older : List Numbered) (now : Numbered) (verb : Verb)
     → printed_for header older now verb ≡ said_text now.number (said_with header (ends_of header older) now.line verb)
-printed-with header older now (Wall r) = refl
-printed-with header older now (Print r) = refl
-printed-with header older now _ = refl
+printed-with header older now verb = grind arith
 
 -- ---- the line
 -- what becomes of a line that can be exchanged, after what the ends did, where this is said
@@ -63,21 +56,18 @@ record KeepsOthers (rename : WorldFault → WorldFault) : Type 0 where
   player : (fault : PlayerFault) → rename (Player fault) ≡ Player fault
 
 carried-map : {A : Type 0} (f : Said → A) (rename : WorldFault → WorldFault) → KeepsOthers rename → (ends : Ends)
-    (who : ℕ) (verb : Verb) (exchange : Bool) (said : Said)
-    → carried_with ends who verb exchange (f said)
+    (who : ℕ) (verb : Verb) (exchange : Bool) (said : Said) → carried_with ends who verb exchange (f said)
     ≡ result_map_both f rename (carried_with ends who verb exchange said)
 carried-map {A} f rename keeps ends who verb exchange said =
     by (exchange && can_talk who ends.tv (ends.own who) verb) (event_by who ends.tv (ends.own who) verb)
   where
-    refused : (outcome : Result Outcome TvFault)
-        → result_and (refused_by outcome) (Ok (f said))
+    refused : (outcome : Result Outcome TvFault) → result_and (refused_by outcome) (Ok (f said))
         ≡ result_map_both f rename (result_and (refused_by outcome) (Ok said))
     refused (Ok done) = refl
     refused (Err (tv.Player fault)) = ap Err (sym (keeps.player fault))
     refused (Err tv.Memory) = refl
 
-    by : (b : Bool) (event : Option TvEvent)
-        → cond b (result_and (played ends.tv event) (Ok (f said))) (Err Absent)
+    by : (b : Bool) (event : Option TvEvent) → cond b (result_and (played ends.tv event) (Ok (f said))) (Err Absent)
         ≡ result_map_both f rename (cond b (result_and (played ends.tv event) (Ok said)) (Err Absent))
     by false event = ap Err (sym keeps.absent)
     by true None = refl
@@ -85,8 +75,7 @@ carried-map {A} f rename keeps ends who verb exchange said =
 
 -- a test that is renamed to itself
 same-test : (test : Result (Unit {0}) WorldFault) → test ≡ result_map_both (λ u. u) (λ fault. fault) test
-same-test (Ok u) = refl
-same-test (Err fault) = refl
+same-test test = grind arith
 
 -- the law
 pub numbers_raised : NumbersDontMatter

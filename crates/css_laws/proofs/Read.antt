@@ -4,17 +4,13 @@ use Rattle.std.proofs.Common.{◌≡◌, ℕ, ◌<◌, arith, ap, sym, ◌∙◌
 use Rattle.std.proofs.Common.{Some, None, Result, Ok, Err, IfOk, bytes_eq, codes, lt-ltb}
 use Rattle.std.proofs.lemmas.Slice.Eq.{bytes_eq-Decides}
 use Rattle.css_num.specs.Words.{whole_number_of}
-use Rattle.css_model.specs.declared.TheConstants.{LIMIT}
-use Rattle.css_schedule.proofs.Steps.{Front, pass, after_whole, ok-range}
-use Rattle.css_schedule.specs.declared.fault.LineFault.{LineFault}
 use Rattle.css_schedule.specs.declared.fault.LineFault.TheVariants.{Form}
-use Rattle.css_schedule.specs.declared.line.Line.{Line}
-use Rattle.css_schedule.specs.declared.line.Verb.{Verb}
-use Rattle.css_schedule.specs.declared.line.Verb.TheVariants.{Sleep}
-use Rattle.css_schedule.specs.Words.{◌>>=◌, At, or_form, number_at, all_read}
+use Rattle.css_schedule.specs.Words.{◌>>=◌, number_at}
 use Rattle.css_schedule.specs.Lines as lines
 use Rattle.css_schedule.specs.Lines.{time_at, verb_at, second_verb_at, operands_at, timelines_at, session_at, viewer_at}
 use Rattle.css_schedule.specs.Lines.{command_at, line_of_words}
+use Rattle.css_laws.proofs.Names.{LIMIT, Front, pass, after_whole, ok-range, LineFault, Line, Verb, Sleep, At, or_form}
+use Rattle.css_laws.proofs.Names.{all_read}
 
 -- ---- one word
 -- one word is read, whatever follows it
@@ -42,8 +38,7 @@ one-word {A} read takes (word ∷ rest) = by (takes.value word) refl
     again a e more = takes.some word more ∙ ap (λ (value : Result A LineFault). value >>= λ a. front a more) e
 
     by : (value : Result A LineFault) → takes.value word ≡ value → IfOk (read (word ∷ rest)) (IsWord read (word ∷ rest))
-    by (Err fault) e =
-        rw (takes.some word rest ∙ ap (λ (value : Result A LineFault). value >>= λ a. front a rest) e) tt
+    by (Err fault) e = rw (takes.some word rest ∙ ap (λ (value : Result A LineFault). value >>= λ a. front a rest) e) tt
     by (Ok a) e = rw (again a e rest) (record { word = word; are = refl; again = again a e })
 
 pub number-word : (limit : ℕ) (words : List (List ℕ)) → IfOk (number_at limit words) (IsWord (number_at limit) words)
@@ -79,8 +74,7 @@ verb-second [] = tt
 verb-second (name ∷ words) = by (bytes_eq name (codes "sleep")) refl (operands_at name words) refl
   where
     by : (test : Bool) → bytes_eq name (codes "sleep") ≡ test → (read : Result (Front Verb) LineFault)
-        → operands_at name words ≡ read
-        → IfOk read (IsVerbIn (name ∷ words))
+        → operands_at name words ≡ read → IfOk read (IsVerbIn (name ∷ words))
     by test e (Err fault) same = tt
     by false e (Ok verb) same = record {
       name = name;

@@ -4,25 +4,18 @@ use Rattle.std.proofs.Common.{ℕ, ◌≤◌, ◌+◌, ap, ◌∙◌, refl, Bool
 use Rattle.std.proofs.lemmas.Slice.Eq.{bytes_eq-Decides}
 use Rattle.css_num.specs.Words.{signed_number_of}
 use Rattle.css_model.specs.Numbers.{max_error}
-use Rattle.css_schedule.proofs.Steps.{Front, pass, after_whole, where_true}
-use Rattle.css_schedule.specs.declared.fault.LineFault.{LineFault}
 use Rattle.css_schedule.specs.declared.fault.LineFault.TheVariants.{Form}
-use Rattle.css_schedule.specs.declared.header.CompanionLine.{CompanionLine}
-use Rattle.css_schedule.specs.declared.header.Header.{Header}
-use Rattle.css_schedule.specs.declared.header.Start.{Start}
-use Rattle.css_schedule.specs.declared.header.Start.TheVariants.{One, Two}
-use Rattle.css_schedule.specs.Words.{words_of, ◌>>=◌, At, or_form, word_at, number_at, integer_at, signed_at}
-use Rattle.css_schedule.specs.Words.{after_word, all_read}
-use Rattle.css_schedule.specs.Headers.{mode_of, mode_at, declared_at, local_at, companion_of_words, count_at}
-use Rattle.css_schedule.specs.Headers.{header_with, first_of_words, second_of_words, start_of, header_of_words}
-use Rattle.css_schedule.specs.Headers.{after_number, numbered_of_words, with_companion}
+use Rattle.css_schedule.specs.Words.{◌>>=◌, number_at, integer_at, signed_at, after_word}
+use Rattle.css_schedule.specs.Headers.{mode_at, declared_at, local_at, companion_of_words, count_at, first_of_words}
+use Rattle.css_schedule.specs.Headers.{second_of_words, start_of, header_of_words, after_number, numbered_of_words}
+use Rattle.css_laws.proofs.Names.{Front, pass, after_whole, where_true, LineFault, CompanionLine, Header, Start, One}
+use Rattle.css_laws.proofs.Names.{Two, words_of, At, or_form, word_at, all_read, mode_of, header_with, with_companion}
 use Rattle.css_laws.proofs.Read.{IsWord, one-word, number-word, itself, one-read}
 
 -- ---- the television
 mode-word : (words : List (List ℕ)) → IfOk (mode_at words) (IsWord mode_at words)
 unfolding mode_at
-mode-word words =
-    one-word mode_at (record { value = mode_of; none = refl; some = λ word rest. refl }) words
+mode-word words = one-word mode_at (record { value = mode_of; none = refl; some = λ word rest. refl }) words
 
 signed-word : (low high : ℤ) (words : List (List ℕ))
     → IfOk (signed_at 3 low high words) (IsWord (signed_at 3 low high) words)
@@ -116,8 +109,7 @@ AreStart words (Two header companions) = Unit {0}
 -- the word is this one
 same-word : (name word : List ℕ) (rest words : List (List ℕ)) → words ≡ word ∷ rest → bytes_eq word name ≡ true
     → words ≡ name ∷ rest
-same-word name word rest words are e =
-    are ∙ ap (λ (w : List ℕ). w ∷ rest) ((bytes_eq-Decides word name).0 e)
+same-word name word rest words are e = are ∙ ap (λ (w : List ℕ). w ∷ rest) ((bytes_eq-Decides word name).0 e)
 
 word-first : (words : List (List ℕ)) → IfOk (word_at words) (λ front. words ≡ front.0 ∷ front.1)
 word-first [] = tt

@@ -4,17 +4,11 @@ use Rattle.std.proofs.Common.{inl, inr, ltb, List, [], ◌∷◌, ◌++◌, ℤ,
 use Rattle.std.proofs.Common.{decimal, ne_eqb}
 use Rattle.std.specs.Fmt.{signed_decimal, digits, digits_onto, digit_glyph}
 use Rattle.std.proofs.lemmas.List.{append_assoc}
-use Rattle.std.proofs.lemmas.List.Elements.{All-nil, All-cons, All-append, All-weaker}
-use Rattle.std.proofs.lemmas.List.Splits.{slice_split_at}
 use Rattle.css_num.specs.Spans.{Interval}
 use Rattle.css_num.proofs.Numerals.{number_of-decimal}
-use Rattle.css_lines.specs.Lines.{is_feed}
-use Rattle.css_lines.specs.Progress.{HasNoFeed}
-use Rattle.css_schedule.specs.Words.{is_space, words_of}
 use Rattle.css_tsmsg.specs.Names.{json_name}
 use Rattle.css_tsmsg.specs.declared.name.TsName.{TsName}
-use Rattle.css_tsmsg.specs.declared.name.TsName.TheVariants.{ContentIdStem, TimelineSelector, TimelineSpeedMultiplier}
-use Rattle.css_tsmsg.specs.declared.name.TsName.TheVariants.{ContentTime, WallClockTime, Earliest, Latest, Actual}
+use Rattle.css_tsmsg.specs.declared.name.TsName.TheVariants.{ContentIdStem}
 use Rattle.css_tsmsg.specs.declared.fault.TsFault.{TsFault}
 use Rattle.css_tsmsg.specs.declared.fault.TsFault.TheVariants as fault
 use Rattle.css_companion.specs.Printed.{fault_words, cause_words, at_position, report_words}
@@ -23,6 +17,8 @@ use Rattle.css_companion.specs.declared.report.Cause.TheVariants as cause
 use Rattle.css_companion.specs.declared.report.Report.{Report}
 use Rattle.css_companion.specs.declared.report.Report.TheVariants as report
 use Rattle.css_laws.specs.Numbers.{IsReadOff, NumbersAreReadOff, Nothing, Span, Reported}
+use Rattle.css_laws.proofs.Names.{All-nil, All-cons, All-append, All-weaker, slice_split_at, is_feed, HasNoFeed}
+use Rattle.css_laws.proofs.Names.{is_space, words_of}
 use Rattle.css_laws.proofs.Runs.{free-by}
 
 -- ---- digits
@@ -121,32 +117,19 @@ wall-begins number span w =
 -- ---- reports
 name-free : (name : TsName) → HasNoFeed (json_name name)
 name-free ContentIdStem = free-by (codes "contentIdStem") refl
-name-free TimelineSelector = free-by (codes "timelineSelector") refl
-name-free ContentTime = free-by (codes "contentTime") refl
-name-free TimelineSpeedMultiplier = free-by (codes "timelineSpeedMultiplier") refl
-name-free WallClockTime = free-by (codes "wallClockTime") refl
-name-free Earliest = free-by (codes "earliest") refl
-name-free Latest = free-by (codes "latest") refl
-name-free Actual = free-by (codes "actual") refl
+name-free name = free-by (json_name name) refl
 
 fault-free : (f : TsFault) → HasNoFeed (fault_words f)
-fault-free fault.NotJson = free-by (codes "NotJson") refl
-fault-free fault.NotObject = free-by (codes "NotObject") refl
-fault-free fault.Fractional = free-by (codes "Fractional") refl
 fault-free (fault.Field name) =
     join-free (codes "Field ") (json_name name) (free-by (codes "Field ") refl) (name-free name)
 fault-free (fault.Range name) =
     join-free (codes "Range ") (json_name name) (free-by (codes "Range ") refl) (name-free name)
-fault-free fault.Memory = free-by (codes "Memory") refl
+fault-free f = free-by (fault_words f) refl
 
 cause-free : (c : Cause) → HasNoFeed (cause_words c)
-cause-free cause.NoAnswer = free-by (codes "NoAnswer") refl
-cause-free cause.NoTimestamp = free-by (codes "NoTimestamp") refl
-cause-free cause.SessionClosed = free-by (codes "SessionClosed") refl
 cause-free (cause.Unreadable f) =
     join-free (codes "Unreadable ") (fault_words f) (free-by (codes "Unreadable ") refl) (fault-free f)
-cause-free cause.Unavailable = free-by (codes "Unavailable") refl
-cause-free cause.NoRate = free-by (codes "NoRate") refl
+cause-free c = free-by (cause_words c) refl
 
 position-free : (assigned : Option ℤ) → HasNoFeed (at_position assigned)
 position-free None = All-nil (λ byte. is_feed byte ≡ false)

@@ -1,24 +1,21 @@
 -- What lines tell of clocks and say that the ends did, with their numbers raised by one.
-use Rattle.std.proofs.Common.{◌≡◌, ℕ, ◌+◌, refl, arith, Bool, true, false, List, [], ◌∷◌}
+use Rattle.std.proofs.Common.{◌≡◌, ℕ, ◌+◌, refl, arith, Bool, false, List, [], ◌∷◌}
 use Rattle.std.specs.Prelude.{Option, Some, None, map, ℤ, neg_ℤ, Result, Ok, Err}
 use Rattle.std.specs.Option.{option_map, option_or}
-use Rattle.std.specs.Result.{result_and, result_map_both}
 use Rattle.css_model.specs.WallClock.{lesser}
 use Rattle.css_moments.specs.Drifts.{Shown, Told, Showed, Slept, last_shown, shown_lately, excess, worst, time_verdict}
 use Rattle.css_moments.specs.Drifts.{drift_verdict, verdict}
 use Rattle.css_moments.specs.declared.fault.DriftFault.{DriftFault}
 use Rattle.css_moments.specs.declared.fault.DriftFault.TheVariants as drifts
-use Rattle.css_schedule.specs.declared.header.Header.{Header}
-use Rattle.css_meaning.specs.Happened.{Numbered, requests, askers, tickets, taken_for, datagrams, made_for, is_given}
-use Rattle.css_meaning.specs.Happened.{ends_of}
 use Rattle.css_model.specs.Numbers.{precision_ns}
 use Rattle.css_meaning.specs.Verdicts.{local_of, tv_reading, own_reading, own_shown_tested, shown_tested}
 use Rattle.css_meaning.specs.Verdicts.{reading_tested, tested, tv_seen, own_seen, seen_of_tv, seen_of}
 use Rattle.css_meaning.specs.Clocks.{Seen, shown_at, told_with, told_by, broken_by, clock_verdict, last_reading}
 use Rattle.css_meaning.specs.Clocks.{has_woken, near_verdict, order_verdict, reading_verdict}
 use Rattle.css_meaning.specs.declared.reading.Reading.{Reading}
-use Rattle.css_meaning.specs.declared.fault.WorldFault.{WorldFault}
 use Rattle.css_laws.specs.Numbers.{raised_line, raised_lines, raised_fault}
+use Rattle.css_laws.proofs.Names.{result_and, result_map_both, Header, Numbered, requests, askers, tickets, taken_for}
+use Rattle.css_laws.proofs.Names.{datagrams, made_for, is_given, ends_of, WorldFault}
 
 -- ---- what is told
 abbrev raised_seen : Seen → Seen
@@ -55,8 +52,7 @@ seen_of-raised who (now ∷ older) = grind (arith, seen_of-raised who older)
 -- what a drift is told
 told_with-raised : (woke : Bool) (told : List Told) → told_with woke (map raised_told told)
     ≡ map raised_told (told_with woke told)
-told_with-raised true told = refl
-told_with-raised false told = refl
+told_with-raised woke told = grind arith
 
 told_by-raised : (seen : List Seen) → told_by (map raised_seen seen) ≡ map raised_told (told_by seen)
 told_by-raised [] = refl
@@ -76,8 +72,7 @@ shown_lately-raised (Showed shown ∷ older) = simp (shown_lately-raised older)
 shown_lately-raised (Slept ∷ older) = refl
 
 lesser-raised : (number : Shown → ℤ) → ((shown : Shown) → number (raised_shown shown) ≡ number shown)
-    → (newer : Shown) (older : Option Shown)
-    → lesser number (raised_shown newer) (option_map raised_shown older)
+    → (newer : Shown) (older : Option Shown) → lesser number (raised_shown newer) (option_map raised_shown older)
     ≡ option_map raised_shown (lesser number newer older)
 lesser-raised number same newer None = refl
 lesser-raised number same newer (Some older) = simp same (grind arith)
@@ -89,17 +84,14 @@ worst-raised error (newer ∷ older) now =
     simp (worst-raised error older now)
     (lesser-raised (λ s. neg_ℤ (excess error s now)) (λ s. refl) newer (worst error older now))
 
-time-raised : (last : Option Shown) (now : Shown)
-    → time_verdict (option_map raised_shown last) (raised_shown now)
+time-raised : (last : Option Shown) (now : Shown) → time_verdict (option_map raised_shown last) (raised_shown now)
     ≡ result_map_both (λ x. x) raised_drift (time_verdict last now)
-time-raised None now = refl
-time-raised (Some last) now = grind arith
+time-raised last now = grind arith
 
 drift-raised : (error : ℕ) (earlier : Option Shown) (now : Shown)
     → drift_verdict error (option_map raised_shown earlier) (raised_shown now)
     ≡ result_map_both (λ x. x) raised_drift (drift_verdict error earlier now)
-drift-raised error None now = refl
-drift-raised error (Some earlier) now = grind arith
+drift-raised error earlier now = grind arith
 
 -- one test after another, where both tell their faults so
 pub both-raised : {T U V E : Type 0} (rename : E → E) (f : T → T) (g : U → V) (a : Result T E) (b : Result U E)
@@ -108,8 +100,7 @@ pub both-raised : {T U V E : Type 0} (rename : E → E) (f : T → T) (g : U →
 both-raised rename f g (Ok x) b = refl
 both-raised rename f g (Err e) b = refl
 
-verdict-raised : (error : ℕ) (told : List Told) (now : Shown)
-    → verdict error (map raised_told told) (raised_shown now)
+verdict-raised : (error : ℕ) (told : List Told) (now : Shown) → verdict error (map raised_told told) (raised_shown now)
     ≡ result_map_both (λ x. x) raised_drift (verdict error told now)
 verdict-raised error told now =
     let drift = drift_verdict error (worst error (shown_lately told) now) now in
@@ -141,8 +132,7 @@ clock_verdict-raised error earlier now =
 reading_at-raised : (value : Option ℕ) (number : ℕ) (last : Option Reading)
     → option_or (option_map (λ v. record { line = number + 1; value = v }) value) (option_map raised_reading last)
     ≡ option_map raised_reading (option_or (option_map (λ v. record { line = number; value = v }) value) last)
-reading_at-raised None number last = refl
-reading_at-raised (Some v) number last = refl
+reading_at-raised value number last = grind arith
 
 last_reading-raised : (seen : List Seen) → last_reading (map raised_seen seen)
     ≡ option_map raised_reading (last_reading seen)
@@ -160,8 +150,7 @@ near-raised number precision shown reading = grind arith
 
 order-raised : (woken : Bool) (last : Option Reading) (reading : ℕ)
     → order_verdict woken (option_map raised_reading last) reading ≡ raised_test (order_verdict woken last reading)
-order-raised woken None reading = refl
-order-raised woken (Some last) reading = grind arith
+order-raised woken last reading = grind arith
 
 reading_verdict-raised : (number precision shown : ℕ) (woken : Bool) (last : Option Reading) (reading : Option ℕ)
     → reading_verdict (number + 1) precision shown woken (option_map raised_reading last) reading

@@ -3,24 +3,12 @@ use Rattle.std.proofs.Common.{◌≡◌, ℕ, suc, zero, ◌+◌, ◌-◌, ◌*�
 use Rattle.std.proofs.Common.{true, false, List, [], ◌∷◌, ◌++◌, length, Option, Some, None, Result, Ok, if◌then◌else◌}
 use Rattle.std.proofs.Common.{replicate, eq-eqb, ne_eqb, eqb-true, option_map, option_to_list}
 use Rattle.std.proofs.lemmas.Bool.{eqb-false}
-use Rattle.std.proofs.lemmas.Bool.Decides.{nat_tests}
-use Rattle.std.proofs.lemmas.List.{append-nil, length-append, length-replicate, replicate_more}
-use Rattle.std.proofs.lemmas.List.Concat.{flat_map-append}
+use Rattle.std.proofs.lemmas.List.{append-nil}
 use Rattle.css_lines.specs.Meaning.{Outcome, outcome, outcome_from, accepted, followed_by, reader_outcome, line_outcome}
 use Rattle.css_lines.specs.Meaning.{offset}
-use Rattle.css_lines.specs.Progress.{HasNoFeed}
 use Rattle.css_lines.proofs.Meant.{outcome_from-append}
 use Rattle.css_companion.specs.Printed.{line_of}
-use Rattle.css_schedule.specs.declared.fault.LineFault.{LineFault}
-use Rattle.css_schedule.specs.declared.header.CompanionLine.{CompanionLine}
-use Rattle.css_schedule.specs.declared.header.Header.{Header}
-use Rattle.css_schedule.specs.declared.header.Start.{Start}
-use Rattle.css_schedule.specs.declared.line.Line.{Line}
-use Rattle.css_schedule.specs.declared.line.Verb.{Verb}
-use Rattle.css_schedule.specs.declared.line.Verb.TheVariants.{Wall, Print}
-use Rattle.css_schedule.specs.Headers.{header_of, companion_of, with_companion}
 use Rattle.css_schedule.specs.Lines.{line_in}
-use Rattle.css_meaning.specs.Happened.{Numbered}
 use Rattle.css_meaning.specs.Verdicts.{printed_for}
 use Rattle.css_meaning.proofs.Worlds.{carried_ok}
 use Rattle.css_gen.specs.Generated.{line_numbered, text_numbered, text_in}
@@ -37,8 +25,10 @@ use Rattle.css_replay.specs.declared.reader.Cause.{Cause}
 use Rattle.css_replay.specs.Replayed.{Extent, Opening, Outset, Running, after, caused, declared, ended_at, grown}
 use Rattle.css_replay.specs.Replayed.{longest_input, longest_line, meant_at, next_companion, opened, reached}
 use Rattle.css_replay.specs.Replayed.{read_meant, replayed, started, version_of, with_line}
-use Rattle.css_replay.proofs.Texts.{printed_is, reached-push}
 use Rattle.css_laws.specs.Generations.{GeneratedSchedulesAreReplayed}
+use Rattle.css_laws.proofs.Names.{nat_tests, length-append, length-replicate, replicate_more, flat_map-append}
+use Rattle.css_laws.proofs.Names.{HasNoFeed, LineFault, CompanionLine, Header, Start, Line, Verb, Wall, Print}
+use Rattle.css_laws.proofs.Names.{header_of, companion_of, with_companion, Numbered, printed_is, reached-push}
 use Rattle.css_laws.proofs.Plain.{is_short, IsLineText, line-short, line-plain, line-text, header-short}
 use Rattle.css_laws.proofs.Runs.{joined, AreFree, joined-outcome, short-line, offset-push, not-long}
 
@@ -89,8 +79,7 @@ record AreRead (seed companions lines : ℕ) (extent : Extent) (printed : List �
   free : AreFree (texts_of seed companions lines)
 
 nothing-read : (seed companions : ℕ) → AreRead seed companions 0 Outset []
-nothing-read seed companions =
-    record { far = refl; so_far = refl; count = refl; few = omega arith; free = tt }
+nothing-read seed companions = record { far = refl; so_far = refl; count = refl; few = omega arith; free = tt }
 
 -- the limits of a version aren't below those of version 1
 limits : (version : ℕ) → (4096 ≤ longest_line version) × (67108864 ≤ longest_input version)
@@ -127,12 +116,7 @@ one-more seed companions lines number extent next so_far printed within before i
         short-line replayed texts text end long ∙ simp (place, before.far, meant) in
         record {
           far = simp (reached-push texts text, place, before.far, reaches);
-          so_far = simp (
-            outcome_from-append replayed [] texts (text ∷ []),
-            before.so_far,
-            line,
-            append-nil printed,
-          );
+          so_far = simp (outcome_from-append replayed [] texts (text ∷ []), before.so_far, line, append-nil printed);
           count = omega (arith, count, length-append texts (text ∷ []));
           few = omega (arith, few, short, offset-push texts text);
           free = free-push texts text before.free plain.free;
@@ -211,8 +195,7 @@ heading-read : (seed companions : ℕ) → AreSome companions
     → AreRead seed companions (heading companions) (Running (header_for companions) (version_for companions) []) []
 heading-read seed companions some = by (companions == 1) refl
   where
-    by : (one : Bool) → (companions == 1) ≡ one
-        → AreRead seed companions (if one then 1 else companions + 1)
+    by : (one : Bool) → (companions == 1) ≡ one → AreRead seed companions (if one then 1 else companions + 1)
         (Running (header_for companions) (if one then 1 else 2) []) []
     by true e =
         subst (λ (n : ℕ). AreRead seed n 1 (Running (header_for n) 1 []) []) (sym (eqb-true companions 1 e))
@@ -229,8 +212,7 @@ line_read : (seed companions number : ℕ) → AreSome companions → heading co
     ≡ Ok (line_for seed companions number)
 line_read seed companions number some late few = by (companions == 1) late
   where
-    by : (one : Bool) → (if one then 1 else companions + 1) < number
-        → line_in (if one then 1 else 2) companions
+    by : (one : Bool) → (if one then 1 else companions + 1) < number → line_in (if one then 1 else 2) companions
         (if one then text_numbered seed number else second_text seed companions number)
         ≡ Ok (if one then line_numbered seed number else second_line seed companions number)
     by true late = (generated_read seed).others number (omega (arith, late)) few

@@ -2,18 +2,14 @@
 use Rattle.std.proofs.Common.{◌≡◌, ℕ, ◌+◌, ◌≤◌, ap, sym, subst, ◌∙◌, refl, Bool, true, false, cond, List, [], ◌∷◌, ◌++◌}
 use Rattle.std.proofs.Common.{length, map, append_assoc, append-nil, arith, ltb}
 use Rattle.std.specs.Prelude.{Option, Some, None, Result, Ok, Err, not, ◌||◌}
-use Rattle.std.specs.List.{flat_map, list_all}
-use Rattle.std.proofs.lemmas.List.Elements.{All-nil, All-push, All-weaker}
 use Rattle.std.proofs.lemmas.List.Sums.{AllPass-from_list_all, sum_by_push}
-use Rattle.std.proofs.lemmas.Bool.Decides.{nat_tests}
-use Rattle.css_lines.specs.Lines.{is_feed, whole_lines, last_part}
-use Rattle.css_lines.specs.Progress.{HasNoFeed}
 use Rattle.css_lines.specs.Meaning.{Meaning, Outcome, refused_at, followed_from, followed_by, offset, is_long}
 use Rattle.css_lines.specs.Meaning.{reader_outcome, line_outcome, outcome_from, finish_outcome, end_outcome, outcome}
-use Rattle.css_lines.specs.declared.reader.Refusal.{Refusal}
 use Rattle.css_lines.specs.declared.reader.Refusal.TheVariants.{Long}
 use Rattle.css_lines.proofs.Cut.{whole_lines_is, last_part_is, whole_from, last_from, whole_from-free, last_from-free}
 use Rattle.css_lines.proofs.Meant.{followed_by-assoc}
+use Rattle.css_laws.proofs.Names.{flat_map, list_all, All-nil, All-push, All-weaker, nat_tests, is_feed, whole_lines}
+use Rattle.css_laws.proofs.Names.{last_part, HasNoFeed, Refusal}
 
 -- ---- steps
 -- a line with its line feed
@@ -129,15 +125,13 @@ steps-free [] (byte ∷ bytes) free end = (end, tt)
 steps-free (line ∷ lines) last free end = (free.0, steps-free lines last free.1 end)
 
 -- since none stands in a part that bytes are cut into
-cut-free : (part bytes : List ℕ) → HasNoFeed part
-    → AreFree (whole_from part bytes) × HasNoFeed (last_from part bytes)
+cut-free : (part bytes : List ℕ) → HasNoFeed part → AreFree (whole_from part bytes) × HasNoFeed (last_from part bytes)
 cut-free part [] free = (tt, free)
 cut-free part (byte ∷ bytes) free =
     by (is_feed byte) refl (cut-free [] bytes (All-nil (λ b. is_feed b ≡ false)))
     (λ e. cut-free (part ++ byte ∷ []) bytes (All-push (λ b. is_feed b ≡ false) part byte free e))
   where
-    by : (feed : Bool) → is_feed byte ≡ feed
-        → AreFree (whole_from [] bytes) × HasNoFeed (last_from [] bytes)
+    by : (feed : Bool) → is_feed byte ≡ feed → AreFree (whole_from [] bytes) × HasNoFeed (last_from [] bytes)
         → (is_feed byte ≡ false → AreFree (whole_from (part ++ byte ∷ []) bytes)
         × HasNoFeed (last_from (part ++ byte ∷ []) bytes))
         → AreFree (cond feed (part ∷ whole_from [] bytes) (whole_from (part ++ byte ∷ []) bytes))
@@ -172,8 +166,7 @@ line-taken {C = C} meaning before line end e =
     by : (long : Bool) → is_long meaning before line end ≡ long
         → (answer : Result (List ℕ) C) → meaning.line before line ≡ answer
         → (cond long (refused_at [] (length before + 1) Long) (reader_outcome (length before + 1) answer)).verdict
-        ≡ None
-        → IsTaken meaning before line end
+        ≡ None → IsTaken meaning before line end
     by true is answer same v = absurd (cc)
     by false is (Ok printed) same v = record { printed = printed; short = is; meant = same }
     by false is (Err cause) same v = absurd (cc)

@@ -2,24 +2,13 @@
 -- is little longer.
 use Rattle.std.proofs.Common.{◌≡◌, ℕ, ◌+◌, ◌*◌, ◌≤◌, arith, ap, sym, ◌∙◌, refl, false, List, [], ◌∷◌, ◌++◌, length}
 use Rattle.std.proofs.Common.{append_assoc, Ok, codes}
-use Rattle.std.specs.List.{position_or_len}
-use Rattle.std.proofs.lemmas.List.{length-append}
-use Rattle.std.proofs.lemmas.List.Elements.{All-nil, All-cons, All-append, All-take, All-drop}
-use Rattle.std.proofs.lemmas.List.Splits.{slice_split_at}
-use Rattle.css_lines.specs.Lines.{is_feed}
-use Rattle.css_lines.specs.Progress.{HasNoFeed}
-use Rattle.css_schedule.proofs.Steps.{ok-range}
-use Rattle.css_schedule.specs.declared.header.CompanionLine.{CompanionLine}
-use Rattle.css_schedule.specs.declared.header.Header.{Header}
-use Rattle.css_schedule.specs.declared.header.Start.TheVariants.{One, Two}
-use Rattle.css_schedule.specs.declared.line.Line.{Line}
-use Rattle.css_schedule.specs.Words.{is_space, words_of}
 use Rattle.css_schedule.specs.Lines as lines
 use Rattle.css_schedule.specs.Lines.{line_of_words, line_of, line_in}
-use Rattle.css_schedule.specs.Headers.{companion_of_words, header_of_words, header_of, companion_of, numbered_of_words}
-use Rattle.css_schedule.specs.Headers.{with_companion}
-use Rattle.css_migrate.specs.Migrated.{first_word, other_words, later_words, three_words, fed, line_turned}
-use Rattle.css_migrate.specs.Migrated.{header_turned}
+use Rattle.css_schedule.specs.Headers.{companion_of_words, header_of_words, numbered_of_words}
+use Rattle.css_laws.proofs.Names.{position_or_len, length-append, All-nil, All-cons, All-append, All-take, All-drop}
+use Rattle.css_laws.proofs.Names.{slice_split_at, is_feed, HasNoFeed, ok-range, CompanionLine, Header, One, Two, Line}
+use Rattle.css_laws.proofs.Names.{is_space, words_of, header_of, companion_of, with_companion, first_word, other_words}
+use Rattle.css_laws.proofs.Names.{later_words, three_words, fed, line_turned, header_turned}
 use Rattle.css_laws.proofs.Cuts.{cut-words, cut-size}
 use Rattle.css_laws.proofs.Read.{AreLine, line-words}
 use Rattle.css_laws.proofs.ReadHeaders.{AreHeader, AreStart, header-words, has-byte}
@@ -78,13 +67,7 @@ line-turned text line free e =
       free = both-free a (32 ∷ (b ++ last)) (first-free text free) (space-free (b ++ last)
           (both-free b last (first-free (other_words text) (others-free text free))
           (one-free (32 ∷ rest) (space-free rest (later-free text free)))));
-      size = omega (
-        arith,
-        sizes_one,
-        sizes_two,
-        length-append a (32 ∷ (b ++ last)),
-        length-append b last,
-      );
+      size = omega (arith, sizes_one, sizes_two, length-append a (32 ∷ (b ++ last)), length-append b last);
       least = omega (arith, sizes_one, sizes_two, sizes_three);
     }
 
@@ -100,8 +83,7 @@ pub header-lines : (text : List ℕ) → fed (header_turned text) ≡ joined (st
 header-lines text =
     by (three_words (later_words text)) (other_words (later_words (later_words text)))
   where
-    by : (a b : List ℕ)
-        → (codes "css-schedule 2 " ++ a ++ (codes " 1" ++ 10 ∷ codes "companion 1 ") ++ b) ++ 10 ∷ []
+    by : (a b : List ℕ) → (codes "css-schedule 2 " ++ a ++ (codes " 1" ++ 10 ∷ codes "companion 1 ") ++ b) ++ 10 ∷ []
         ≡ joined ((codes "css-schedule 2 " ++ (a ++ codes " 1")) ∷ (codes "companion 1 " ++ b) ∷ [])
     by a b = simp append_assoc
 

@@ -1,13 +1,13 @@
 -- A replay of what a run of `migrate` wrote.
 use Rattle.std.proofs.Common.{inl, inr, sym, ℕ, List, Option}
 use Rattle.css_lines.specs.Meaning.{outcome}
-use Rattle.css_migrate.specs.Migrated.{migrated}
 use Rattle.css_status.specs.Ended.{Reads}
 use Rattle.css_status.specs.declared.status.Status.TheVariants.{Done}
 use Rattle.css_status.proofs.OverLines.{never_done}
 use Rattle.css_app.specs.Ended.{line_refused}
 use Rattle.css_laws.specs.Raised.{MigratedSchedulesAreReplayedAlike}
 use Rattle.css_laws.specs.Writing.{GainsAlike, WrittenIsReplayedAlike}
+use Rattle.css_laws.proofs.Names.{migrated}
 
 -- what a migration gained that is done
 gains : MigratedSchedulesAreReplayedAlike → (bytes : List ℕ) (left holds_old holds_new : Option (List ℕ))

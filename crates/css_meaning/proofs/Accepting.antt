@@ -1,18 +1,15 @@
 -- The drifts accept the lines, and the lines are a world.
-use Rattle.std.proofs.Common.{◌≡◌, ℕ, ◌<◌, ◌≤◌, arith, ap, sym, ◌∙◌, Bool, inl, inr, true, false, List, [], ◌∷◌}
-use Rattle.std.proofs.Common.{length, Some}
-use Rattle.std.proofs.lemmas.Bool.Decides.{eqb_tells}
-use Rattle.css_model.specs.World.{Moment, OwnClock, KeepsErrors}
+use Rattle.std.proofs.Common.{◌≡◌, ℕ, ◌<◌, ◌≤◌, arith, ap, sym, ◌∙◌, Bool, inl, inr, true, false, List, [], ◌∷◌, length}
+use Rattle.std.proofs.Common.{Some}
 use Rattle.css_moments.specs.Drifts as drifts
 use Rattle.css_moments.specs.Drifts.{Told}
 use Rattle.css_moments.proofs.Pairs.{accepted_keeps}
-use Rattle.css_schedule.specs.Owners.{is_sleep}
-use Rattle.css_schedule.specs.declared.header.Header.{Header}
 use Rattle.css_meaning.specs.Happened.{Numbered}
 use Rattle.css_meaning.specs.Worlds.{world_of, errors_of}
 use Rattle.css_meaning.specs.Clocks.{told_with, told_by}
 use Rattle.css_meaning.specs.Verdicts.{seen_of_tv, seen_of, local_of}
 use Rattle.css_meaning.specs.Accepted.{AreAccepted, IsNext}
+use Rattle.css_meaning.proofs.Names.{eqb_tells, Moment, OwnClock, KeepsErrors, is_sleep, Header}
 use Rattle.css_meaning.proofs.Worlds.{world-older, world-now, place, tested_ok, tv_shown-ok, own_shown-ok, seen_own}
 use Rattle.css_meaning.proofs.Worlds.{seen_other, clock-is, sleeps_order, own_two, tv_two}
 
@@ -41,8 +38,7 @@ next_older number last (first ∷ older) next above = omega (arith, next, above)
 
 -- it is above that of the last line of a companion
 pub next_own : (header : Header) (who number : ℕ) (older : List Numbered) → AreAccepted header older
-    → IsNext number older
-    → drifts.IsNext (drifts.last_shown (told_by (seen_of who older))) number
+    → IsNext number older → drifts.IsNext (drifts.last_shown (told_by (seen_of who older))) number
 next_own header who number [] accepted next = tt
 next_own header who number (last ∷ older) accepted next = elim (eqb_tells last.line.who who) [
   | inl own ↦ rw (seen_own last older who own.1) next
@@ -102,7 +98,6 @@ keeps_errors header lines accepted =
       companion = λ who i j earlier later le p q same.
           let first = first_of who lines i earlier p in
           let error = (local_of who header).error in
-          let own =
-          accepted_keeps error (told_by (seen_of who lines)) (own_accepted header who lines first accepted) in
+          let own = accepted_keeps error (told_by (seen_of who lines)) (own_accepted header who lines first accepted) in
           own_two who error lines i j earlier later own le p q same;
     }

@@ -1,19 +1,16 @@
 -- What a companion did on its sessions at accepted lines.
 use Rattle.std.proofs.Common.{◌≡◌, ◌≤◌, ℕ, ◌⊎◌, inl, inr, refl, sym, ap, ◌∙◌, arith, true, false, not, ◌==◌, List, []}
 use Rattle.std.proofs.Common.{◌∷◌, Some, None, is_some}
-use Rattle.std.proofs.lemmas.Bool.{and_parts}
 use Rattle.css_model.specs.declared.Kind.{Kind as Dialling}
 use Rattle.css_model.specs.declared.Kind.TheVariants as session
-use Rattle.css_model.specs.History.{History, Dialled, Closed}
-use Rattle.css_num.specs.declared.protocol.Kind.{Kind}
+use Rattle.css_model.specs.History.{Closed}
 use Rattle.css_num.specs.declared.protocol.Kind.TheVariants as kind
 use Rattle.css_sessions.specs.Told.{texts_of_lived}
-use Rattle.css_tv.specs.declared.event.TvEvent.{TvEvent}
 use Rattle.css_companion.specs.Meanings.{kind_of}
-use Rattle.css_schedule.specs.declared.header.Header.{Header}
 use Rattle.css_meaning.specs.Sessions.{peer_of, is_open, was_opened, written_to, told_to}
 use Rattle.css_meaning.specs.Happened.{Numbered, events_of, history_of}
 use Rattle.css_meaning.specs.Accepted.{AreAccepted}
+use Rattle.css_meaning.proofs.Names.{and_parts, History, Dialled, Kind, TvEvent, Header}
 use Rattle.css_meaning.proofs.Peers.{ts_of}
 use Rattle.css_meaning.proofs.Staged.{IsKeptBy, each_end, never_opened}
 
@@ -35,8 +32,7 @@ dialled_as kind.Ts = session.Ts
 
 -- a session of companion `who` is dialled with its own kind, if it is dialled
 abbrev pub IsOfKind : ℕ → Kind → List TvEvent → History → Type 0
-IsOfKind who k events own =
-    (kind_of (peer_of who k) own ≡ None) ⊎ (kind_of (peer_of who k) own ≡ Some (dialled_as k))
+IsOfKind who k events own = (kind_of (peer_of who k) own ≡ None) ⊎ (kind_of (peer_of who k) own ≡ Some (dialled_as k))
 
 -- so each verb keeps the kinds
 keeps_kind : (header : Header) (who : ℕ) (k : Kind) → 1 ≤ who → IsKeptBy header who (IsOfKind who k)

@@ -1,15 +1,11 @@
 -- What both ends did at accepted lines, by their last line.
-use Rattle.std.proofs.Common.{◌≡◌, ◌≢◌, ℕ, refl, ap, Bool, true, false, cond, List, ◌∷◌, ◌++◌, ne_eqb, Result}
-use Rattle.std.proofs.Common.{Ok, Err, eq-eqb, option_to_list}
-use Rattle.std.proofs.lemmas.Bool.{and_parts}
-use Rattle.css_model.specs.History.{History}
-use Rattle.css_tv.specs.declared.event.TvEvent.{TvEvent}
-use Rattle.css_schedule.specs.declared.header.Header.{Header}
-use Rattle.css_schedule.specs.declared.line.Verb.{Verb}
+use Rattle.std.proofs.Common.{◌≡◌, ◌≢◌, ℕ, refl, ap, Bool, true, false, cond, List, ◌∷◌, ◌++◌, ne_eqb, Result, Ok, Err}
+use Rattle.std.proofs.Common.{eq-eqb, option_to_list}
 use Rattle.css_meaning.specs.declared.fault.WorldFault.TheVariants.{Absent}
 use Rattle.css_meaning.specs.Happened.{Numbered, datagrams, event_by, done_by, events_of, history_of}
 use Rattle.css_meaning.specs.Verdicts.{can_exchange, can_talk, can_happen}
 use Rattle.css_meaning.specs.Accepted.{AreAccepted}
+use Rattle.css_meaning.proofs.Names.{and_parts, History, TvEvent, Header, Verb}
 use Rattle.css_meaning.proofs.Worlds.{carried_ok}
 
 -- ---- one line more

@@ -1,14 +1,12 @@
 -- What an entry of one session tells of it, and of another one.
 use Rattle.std.proofs.Common.{◌≡◌, ℕ, ap, refl, Bool, true, false, cond, not, ◌==◌, List, ◌∷◌, arith, ◌||◌, ◌&&◌, Some}
 use Rattle.std.proofs.Common.{None, is_some, eq-eqb}
-use Rattle.std.specs.List.{cons_option}
-use Rattle.std.specs.Option.{option_or}
 use Rattle.css_model.specs.declared.Kind.{Kind as Dialling}
-use Rattle.css_model.specs.History.{History, Dialled, Heard, Wrote, Closed}
-use Rattle.css_tv.specs.declared.event.TvEvent.{TvEvent}
+use Rattle.css_model.specs.History.{Closed}
 use Rattle.css_tv.specs.declared.event.TvEvent.TheVariants as event
 use Rattle.css_companion.specs.Meanings.{kind_of}
 use Rattle.css_meaning.specs.Sessions.{is_open, was_opened, heard_from, written_to, received_from}
+use Rattle.css_meaning.proofs.Names.{cons_option, option_or, History, Dialled, Heard, Wrote, TvEvent}
 
 -- ---- the session itself
 module _ (peer : ℕ) where

@@ -2,14 +2,11 @@
 -- down, the sum is that of the sum, or one less.
 use Rattle.std.proofs.Common.{◌≡◌, ◌≢◌, ℕ, ◌+◌, ◌*◌, ◌<◌, ◌⊎◌, inl, inr, arith, ap, sym, ◌∙◌}
 use Rattle.std.specs.Prelude.{ℤ, pos, ◌+ℤ◌, ◌-ℤ◌, ◌*ℤ◌, ◌≤ℤ◌, ◌<ℤ◌}
-use Rattle.std.proofs.lemmas.Bool.Decides.{eqb_tells}
-use Rattle.std.proofs.lemmas.Int.{ints}
 use borrow.Author.Differences.{up, down, product_is, same_in}
 use Rattle.css_num.specs.Division.{floor_div}
 use Rattle.css_num.proofs.Rounding.{le-floor_div_iff, floor_div_times-le, lt-floor_div_next_times, lt_of_times-lt}
-use Rattle.css_player.specs.Player.{Segment, Track}
 use Rattle.css_player.specs.Segments.{media_at, tick_of, position_at}
-use Rattle.css_companion.specs.Positions.{position}
+use Rattle.css_meaning.proofs.Names.{eqb_tells, ints, Segment, Track, position}
 
 -- a whole number that isn't below another one, and not above the next one, is one of the two
 one_of_two : (k f : ℤ) → f ≤ℤ k → k ≤ℤ (f +ℤ pos 1) → (k ≡ f) ⊎ (k ≡ f +ℤ pos 1)
@@ -21,8 +18,7 @@ one_of_two k f low high = elim (eqb_tells (up k + down f) (up f + down k)) [
 ]
 
 -- the quotient of a sum, rounded down, is the sum of the quotients or one more
-pub floor_div-sum : (x y : ℤ) (d : ℕ) → 0 < d
-    → (floor_div (x +ℤ y) d ≡ floor_div x d +ℤ floor_div y d)
+pub floor_div-sum : (x y : ℤ) (d : ℕ) → 0 < d → (floor_div (x +ℤ y) d ≡ floor_div x d +ℤ floor_div y d)
     ⊎ (floor_div (x +ℤ y) d ≡ (floor_div x d +ℤ floor_div y d) +ℤ pos 1)
 floor_div-sum x y d p =
     let f = floor_div x d in
@@ -96,8 +92,7 @@ in_parts media distance speed u =
 
 -- the position that is shown is the one that is assigned, or one more
 pub shown_nearly : (track : Track) (segment : Segment) (at wall : ℕ) → 0 < track.rate.units_per_tick
-    → segment.at ≡ pos at
-    → let tick = position (tick_of track segment.media) at segment.speed track.rate (pos wall) in
+    → segment.at ≡ pos at → let tick = position (tick_of track segment.media) at segment.speed track.rate (pos wall) in
     (position_at track segment (pos wall) ≡ tick) ⊎ (position_at track segment (pos wall) ≡ tick +ℤ pos 1)
 shown_nearly track segment at wall positive is =
     let d : ℕ = track.rate.units_per_tick * 1000000000 in

@@ -2,13 +2,7 @@
 use Rattle.std.proofs.Common.{◌≡◌, ℕ, refl, ap, sym, subst, ◌∙◌, append_assoc, Bool, true, false, cond, ◌==◌, List, []}
 use Rattle.std.proofs.Common.{◌∷◌, ◌++◌, Option, Some, None, IfSome, option_map, Result, Ok, Err, reverse, eqb-true}
 use Rattle.std.proofs.Common.{option_to_list}
-use Rattle.std.proofs.lemmas.List.{append-nil}
-use Rattle.css_num.specs.declared.control.Control.{Control}
-use Rattle.css_player.specs.Player.{Player}
 use Rattle.css_cii.specs.States.{difference, is_empty}
-use Rattle.css_cii.specs.declared.state.State.{State}
-use Rattle.css_tsmsg.specs.declared.setup.Setup.{Setup}
-use Rattle.css_num.specs.declared.protocol.Kind.{Kind}
 use Rattle.css_sessions.specs.Offsets.{control_for}
 use Rattle.css_sessions.specs.Kept.{Event as SessionsCall, Opened, SetUp, Published, Closed, Presented, Dropped}
 use Rattle.css_sessions.specs.Kept.{same_control}
@@ -17,11 +11,10 @@ use Rattle.css_sessions.specs.Told.{TsLife, set_life, grown_life, state_of, text
 use Rattle.css_sessions.specs.Told.{Life, CiiLife, Unset, Lived, born, living, ended, when, latest, life_of, said_to}
 use Rattle.css_tv.proofs.More.{texts_all}
 use Rattle.css_tv.specs.Outcomes.{Outcome, outcome_at, said_after}
-use Rattle.css_tv.specs.Standing.{Calls, calls_of, with_outcome}
-use Rattle.css_tv.specs.declared.event.TvEvent.{TvEvent}
-use Rattle.css_tv.specs.declared.fault.TvFault.{TvFault}
 use Rattle.css_meaning.specs.Arrived.{states_of_life, states_of_lived}
 use Rattle.css_meaning.specs.Sessions.{addresses}
+use Rattle.css_meaning.proofs.Names.{append-nil, Control, Player, State, Setup, Kind, Calls, calls_of, with_outcome}
+use Rattle.css_meaning.proofs.Names.{TvEvent, TvFault}
 use Rattle.css_meaning.proofs.Staging.{IsStaged, IsSound, stage_by, staged_event}
 
 -- ---- lists

@@ -1,34 +1,20 @@
 -- The k-th text of a session of a companion tells the k-th state or control, and none is refused.
-use Rattle.std.proofs.Common.{◌≡◌, ℕ, ◌+◌, ◌-◌, ◌≤◌, drop, refl, ap, sym, subst, ◌∙◌, arith}
-use Rattle.std.proofs.Common.{Bool, true, false, cond, List, [], ◌∷◌, ◌++◌, length, length-append}
+use Rattle.std.proofs.Common.{◌≡◌, ℕ, ◌+◌, ◌-◌, ◌≤◌, drop, refl, ap, sym, subst, ◌∙◌, arith, Bool, true, false, cond}
+use Rattle.std.proofs.Common.{List, [], ◌∷◌, ◌++◌, length, length-append}
 use Rattle.std.specs.Prelude.{Option, Some, None, IfSome, is_some, Result, Ok}
-use Rattle.std.specs.Option.{option_or, option_map, option_to_list}
-use Rattle.std.proofs.lemmas.Bool.{and_parts, not-true}
+use Rattle.std.specs.Option.{option_map, option_to_list}
 use Rattle.css_model.specs.declared.Kind.{Kind as Dialling}
 use Rattle.css_model.specs.declared.Kind.TheVariants as session
-use Rattle.css_model.specs.declared.Message.{Message}
-use Rattle.css_model.specs.History.{History, Heard}
-use Rattle.css_num.specs.declared.control.Control.{Control}
 use Rattle.css_cii.specs.States.{applied}
-use Rattle.css_cii.specs.declared.state.State.{State}
 use Rattle.css_tsmsg.specs.Controls.{control_of}
-use Rattle.css_tsmsg.specs.declared.fault.TsFault.{TsFault}
 use Rattle.css_tsmsg.specs.Setups.{IsUtf8Setup}
-use Rattle.css_tsmsg.specs.declared.setup.Setup.{Setup}
-use Rattle.css_num.specs.declared.protocol.Kind.{Kind}
 use Rattle.css_num.specs.declared.protocol.Kind.TheVariants as kind
 use Rattle.css_sessions.specs.ReadBack.{IsReadBack, AreReadBack}
 use Rattle.css_sessions.specs.Told.{Life, CiiLife, Unset, TsLife, Lived, texts_of_life, texts_of_lived}
 use Rattle.css_sessions.proofs.ReadBack.{read_back}
-use Rattle.css_tv.specs.Standing.{calls_of}
-use Rattle.css_tv.specs.declared.event.TvEvent.{TvEvent}
 use Rattle.css_companion.specs.Contents.{told, next_number}
 use Rattle.css_companion.specs.Meanings.{kind_of, is_cii, is_ts, cii_text, ts_text, texts_of, state_of, control_by}
 use Rattle.css_companion.specs.Published.{latest, TellsState, TellsNewest, TellsStates}
-use Rattle.css_companion.proofs.Telling.{told_is_published}
-use Rattle.css_schedule.specs.declared.header.Header.{Header}
-use Rattle.css_schedule.specs.Ranges.{IsCount}
-use Rattle.css_schedule.specs.declared.line.Verb.{Verb}
 use Rattle.css_schedule.specs.declared.line.Verb.TheVariants as verb
 use Rattle.css_meaning.specs.Arrived.{states_of_lived, states_come, IsToldInOrder}
 use Rattle.css_meaning.specs.Sessions.{addresses, peer_of, setup_of, is_open, was_opened, heard_from, told_to}
@@ -36,6 +22,8 @@ use Rattle.css_meaning.specs.Sessions.{next_down}
 use Rattle.css_meaning.specs.Happened.{Numbered, hearing, event_by, done_by, events_of, history_of}
 use Rattle.css_meaning.specs.Verdicts.{IsDeclared, can_talk}
 use Rattle.css_meaning.specs.Accepted.{AreAccepted}
+use Rattle.css_meaning.proofs.Names.{option_or, and_parts, not-true, Message, History, Heard, Control, State, TsFault}
+use Rattle.css_meaning.proofs.Names.{Setup, Kind, calls_of, TvEvent, told_is_published, Header, IsCount, Verb}
 use Rattle.css_meaning.proofs.Peers.{cii_of, ts_of, cii-ts, ts-cii}
 use Rattle.css_meaning.proofs.Entries.{heard-one, heard-apart}
 use Rattle.css_meaning.proofs.Ends.{events_with}
@@ -126,8 +114,7 @@ hears_on who old new own one two before =
 -- the same texts, of the sessions as they are known
 hears_as : (events : List TvEvent) (who : ℕ) (own : History) (cii ts cii_now ts_now : List (List ℕ)) → cii_now ≡ cii
     → ts_now ≡ ts → HearsSo events who own cii ts → HearsSo events who own cii_now ts_now
-hears_as events who own cii ts cii_now ts_now one two is =
-    rw one (rw two is)
+hears_as events who own cii ts cii_now ts_now one two is = rw one (rw two is)
 
 module _ (header : Header) (who : ℕ) (first : 1 ≤ who) (events : List TvEvent) (own : History)
     (talked : HasTalked header who events own) where
@@ -296,8 +283,7 @@ order_start header who = record {
 
 -- What companion `who` heard at accepted lines is in order.
 pub in_order : (header : Header) (lines : List Numbered) (who : ℕ) → 1 ≤ who → IsDeclared header
-    → AreAccepted header lines
-    → IsInOrder header who (events_of header lines) (history_of who header lines)
+    → AreAccepted header lines → IsInOrder header who (events_of header lines) (history_of who header lines)
 in_order header lines who first declared accepted =
     each_end header who (IsInOrder header who) first (order_start header who)
     (order_kept header who first declared.companions (setup_utf8 header who declared)) (order_apart header who first)
@@ -306,8 +292,7 @@ in_order header lines who first declared accepted =
 -- ---- the states
 -- The texts that came tell the first published states, and the companion's state is the last of them.
 pub are_told_in_order : (header : Header) (lines : List Numbered) (who : ℕ) → 1 ≤ who → IsDeclared header
-    → AreAccepted header lines
-    → IsToldInOrder who header lines
+    → AreAccepted header lines → IsToldInOrder who header lines
 are_told_in_order header lines who first declared accepted =
     let tells = (in_order header lines who first declared accepted).hearing.tells in
     record {

@@ -2,35 +2,24 @@
 use Rattle.std.proofs.Common.{◌≡◌, ◌≢◌, ℕ, zero, ◌-◌, ◌<◌, ◌≤◌, refl, ap, sym, subst, ◌∙◌, arith, Bool, true, false}
 use Rattle.std.proofs.Common.{List, [], ◌∷◌, length, take, drop, length-take, ℤ, pos, ◌≤ℤ◌, Option, Some, None, IfSome}
 use Rattle.std.proofs.Common.{Result, Ok, bytes_eq, option_and_then}
-use Rattle.css_model.specs.History.{History}
-use Rattle.css_num.specs.declared.control.Control.{Control}
-use Rattle.css_num.specs.declared.control.Control.TheVariants.{Available, Unavailable}
-use Rattle.css_num.specs.declared.timeline.Timeline.{Timeline}
-use Rattle.css_player.specs.Player.{Player, Programme, Segment, Track, IsSegment}
 use Rattle.css_player.specs.Segments.{present, track_of}
 use Rattle.css_cii.specs.States.{empty}
-use Rattle.css_cii.specs.declared.state.State.{State}
-use Rattle.css_tsmsg.specs.declared.fault.TsFault.{TsFault}
-use Rattle.css_tsmsg.specs.declared.setup.Setup.{Setup}
 use Rattle.css_sessions.specs.Offsets.{control_for}
 use Rattle.css_sessions.specs.ReadBack.{cii_states, ts_controls, ReadsAsStates, ReadsAsControls, AreReadBack, IsCurrent}
 use Rattle.css_sessions.specs.Told.{Life, CiiLife, TsLife, latest as latest_of, state_of as state_kept}
 use Rattle.css_sessions.proofs.Telling.{is_kept}
 use Rattle.css_tv.specs.States.{published_state, timelines_of}
-use Rattle.css_tv.specs.Standing.{calls_of}
-use Rattle.css_tv.specs.declared.event.TvEvent.{TvEvent}
-use Rattle.css_tv.specs.declared.state.Addresses.{Addresses}
 use Rattle.css_companion.specs.Meanings.{state_of, control_by, is_closed, assigned_after}
 use Rattle.css_companion.specs.Published.{latest}
-use Rattle.css_companion.specs.Reports.{timing_of, assigned_by}
 use Rattle.css_companion.specs.TimelineRates.{rate_of}
-use Rattle.css_companion.proofs.Telling.{told_is_published}
-use Rattle.css_schedule.specs.declared.header.Header.{Header}
 use Rattle.css_meaning.specs.Arrived.{states_of_lived, HasAllCome, IsInStep, IsShownAt, published_tick}
 use Rattle.css_meaning.specs.Sessions.{addresses, setup_of, is_open, heard_from, received_from, told_to, in_flight}
 use Rattle.css_meaning.specs.Happened.{Numbered, events_of, history_of}
 use Rattle.css_meaning.specs.Verdicts.{IsDeclared, assigned_at}
 use Rattle.css_meaning.specs.Accepted.{AreAccepted}
+use Rattle.css_meaning.proofs.Names.{History, Control, Available, Unavailable, Timeline, Player, Programme, Segment}
+use Rattle.css_meaning.proofs.Names.{Track, IsSegment, State, TsFault, Setup, calls_of, TvEvent, Addresses, timing_of}
+use Rattle.css_meaning.proofs.Names.{assigned_by, told_is_published, Header}
 use Rattle.css_meaning.proofs.Peers.{cii_of, ts_of}
 use Rattle.css_meaning.proofs.Playing.{IsPlayable, IsPlayableProgramme, IsPlayableTrack, present_playable, all-find}
 use Rattle.css_meaning.proofs.Growing.{controls_of_lived}
@@ -154,8 +143,7 @@ module _ (header : Header) (who : ℕ) (first : 1 ≤ who) (events : List TvEven
   -- so the companion assigns what is published
   assigned_is : (wall : ℕ) → is_open cii own ≡ true → is_open ts own ≡ true → received_from ts events ≢ []
       → in_flight (told_to cii events) (heard_from cii own) ≡ [] → in_flight (told_to ts events) (heard_from ts own)
-      ≡ []
-      → assigned_after wanted.selector own wall ≡ published_tick wanted shown wall
+      ≡ [] → assigned_after wanted.selector own wall ≡ published_tick wanted shown wall
   assigned_is wall cii_open ts_open set_up states controls =
       let assigned : Option (Result Control TsFault) → Bool → Option (List Timeline) → Option ℤ =
       λ told closed timelines. assigned_by (timing_of told closed (rate_of wanted.selector timelines)) wall in
@@ -192,8 +180,7 @@ shown_if setup p wall (Some tick) playable is =
 -- Where both sessions of companion `who` are open, its setup has come and no text of the television is in flight, it
 -- assigns what the television published, which is the position that is shown, or one tick less.
 pub in_step : (header : Header) (lines : List Numbered) (who wall : ℕ) → 1 ≤ who → IsDeclared header
-    → AreAccepted header lines
-    → HasAllCome who header lines → IsInStep who header lines wall
+    → AreAccepted header lines → HasAllCome who header lines → IsInStep who header lines wall
 in_step header lines who wall first declared accepted all =
     let events = events_of header lines in
     let own = history_of who header lines in
@@ -202,7 +189,4 @@ in_step header lines who wall first declared accepted all =
     let is = assigned_is header who first events own order wall all.cii_open all.ts_open all.set_up all.states
     all.controls in
     let tick = assigned_at who header lines wall in
-    record {
-      published = is;
-      shown = shown_if (setup_of who header) (shown_after events) wall tick playable (sym is);
-    }
+    record { published = is; shown = shown_if (setup_of who header) (shown_after events) wall tick playable (sym is) }

@@ -2,27 +2,18 @@
 use Rattle.std.proofs.Common.{◌≡◌, ℕ, suc, ◌^◌, ◌<◌, ◌≤◌, ◌/◌, ◌%◌, arith, ap, sym, subst, ◌∙◌, refl, Bool, true, false}
 use Rattle.std.proofs.Common.{cond, ◌==◌, List, [], ◌∷◌, ◌++◌, length, inr, Option, Some, None, IfSome, Result, Ok}
 use Rattle.std.proofs.Common.{◌&&◌, pos, int_lt, nat_lt, ◌≢◌, le-ltb, lt-ltb, eqb-true, option_map, option_and_then}
-use Rattle.std.specs.Result.{result_ok}
-use Rattle.css_model.specs.declared.TheConstants.{LIMIT}
-use Rattle.css_model.specs.declared.Message.{Message}
-use Rattle.css_model.specs.declared.WcFault.{WcFault}
 use Rattle.css_model.specs.declared.WcFault.TheVariants as wc
 use Rattle.css_model.specs.declared.Why.TheVariants as why
-use Rattle.css_model.specs.Numbers.{IsWithin, precision_ns, max_error}
-use Rattle.css_model.specs.World.{World}
 use Rattle.css_model.specs.Wire.{encoded, decoded, stamp_of, second}
-use Rattle.css_model.specs.History.{Entry, History, Clock, Took, Each, LandedAnswer, landed_answer, answer_in, is_asked}
-use Rattle.css_model.proofs.Lately.{IsIn}
 use Rattle.css_model.proofs.Narrowest.{is_not_less}
 use Rattle.css_wc.proofs.Codec.{IsStamp, decoded-encoded}
-use Rattle.css_server.specs.Tickets.{Ticket, answer_message}
-use Rattle.css_schedule.specs.declared.header.Header.{Header}
-use Rattle.css_schedule.specs.declared.line.Verb.{Verb}
-use Rattle.css_schedule.specs.declared.line.Verb.TheVariants.{Ask, Land}
 use Rattle.css_meaning.specs.Happened.{Numbered, server_of, datagrams, made_for, bytes_of, history_of, peer}
 use Rattle.css_meaning.specs.Numbering.{numbered}
 use Rattle.css_meaning.specs.Verdicts.{is_for, can_exchange, IsDeclared}
 use Rattle.css_meaning.specs.Accepted.{AreAccepted}
+use Rattle.css_meaning.proofs.Names.{result_ok, LIMIT, Message, WcFault, IsWithin, precision_ns, max_error, World}
+use Rattle.css_meaning.proofs.Names.{Entry, History, Clock, Took, Each, LandedAnswer, landed_answer, answer_in}
+use Rattle.css_meaning.proofs.Names.{is_asked, IsIn, Ticket, answer_message, Header, Verb, Ask, Land}
 use Rattle.css_meaning.proofs.Lawful.{IsTalk, Adds, each_line}
 use Rattle.css_meaning.proofs.Ends.{can_exchange_now}
 use Rattle.css_meaning.proofs.Moments.{Agrees, AreHere, entries-here}
@@ -80,8 +71,7 @@ pub record IsAnswer (world : World) (header : Header) (d : Made) (received_at : 
 
 -- a datagram that was made is an answer in the world
 pub is_answer : (world : World) (moment_of : ℕ → ℕ) (header : Header) (who : ℕ) (lines : List Numbered)
-    (d : Made) (is : IsMade world moment_of header who lines d)
-    → IsAnswer world header d is.taken.received_at
+    (d : Made) (is : IsMade world moment_of header who lines d) → IsAnswer world header d is.taken.received_at
 is_answer world moment_of header who lines d is = by is.tells
   where
     by : Tells header d → IsAnswer world header d is.taken.received_at
@@ -130,8 +120,7 @@ is_answer world moment_of header who lines d is = by is.tells
 
 -- a made datagram is read back from its bytes
 pub message_back : (world : World) (moment_of : ℕ → ℕ) (header : Header) (who : ℕ) (lines : List Numbered) (d : Made)
-    → IsDeclared header → IsMade world moment_of header who lines d
-    → decoded (encoded d.message) ≡ Ok d.message
+    → IsDeclared header → IsMade world moment_of header who lines d → decoded (encoded d.message) ≡ Ok d.message
 message_back world moment_of header who lines d declared is =
     let answer = is_answer world moment_of header who lines d is in
     rw answer.is (answer_back header d.ticket answer.message_type answer.transmit is.taken.asked declared
@@ -139,8 +128,7 @@ message_back world moment_of header who lines d declared is =
 
 -- and it is an answer
 pub answer-in : (world : World) (moment_of : ℕ → ℕ) (header : Header) (who : ℕ) (lines : List Numbered) (d : Made)
-    → IsDeclared header → IsMade world moment_of header who lines d
-    → answer_in (encoded d.message) ≡ Some d.message
+    → IsDeclared header → IsMade world moment_of header who lines d → answer_in (encoded d.message) ≡ Some d.message
 answer-in world moment_of header who lines d declared is =
     let answer = is_answer world moment_of header who lines d is in
     let not_request : (d.message.message_type == 0) ≡ false =

@@ -2,27 +2,13 @@
 use Rattle.std.proofs.Common.{◌≡◌, ℕ, ◌+◌, ◌-◌, ◌/◌, ◌%◌, ◌^◌, ◌<◌, ◌≤◌, arith, rules, ap, sym, subst, ◌∙◌, refl, cond}
 use Rattle.std.proofs.Common.{◌==◌, Bool, true, false, List, [], ◌∷◌, inl, inr}
 use Rattle.std.specs.Prelude.{◌&&◌, ◌||◌, Option, Some, None, IfSome, is_none, Result, Ok}
-use Rattle.std.specs.Option.{option_map, option_or, option_and_then}
-use Rattle.std.specs.Result.{result_ok}
-use Rattle.std.proofs.lemmas.Bool.Decides.{eqb_tells}
-use Rattle.css_model.specs.declared.TheConstants.{LIMIT}
-use Rattle.css_model.specs.declared.Message.{Message}
-use Rattle.css_model.specs.declared.WcFault.{WcFault}
+use Rattle.std.specs.Option.{option_map, option_and_then}
 use Rattle.css_model.specs.declared.Why.TheVariants as why
 use Rattle.css_model.specs.Wire.{encoded, decoded, request_at}
-use Rattle.css_model.specs.Numbers.{precision_ns}
-use Rattle.css_model.specs.History.{Entry, History, Clock, Sent, Took, Slept, Dialled, Heard, Wrote, Closed, Each, Once}
-use Rattle.css_model.specs.History.{asking_at, sleeps}
+use Rattle.css_model.specs.History.{Closed}
 use Rattle.css_model.specs.Explains.{IsLawful, IsJustAsked, RisesAt, AsksAt}
 use Rattle.css_wc.proofs.Codec.{decoded-encoded}
-use Rattle.css_schedule.specs.declared.header.Header.{Header}
-use Rattle.css_schedule.specs.declared.line.Verb.{Verb}
-use Rattle.css_schedule.specs.declared.line.Verb.TheVariants.{Ask, Land, Wall, Print, Opening, Bring, Present, Close}
-use Rattle.css_schedule.specs.declared.line.Verb.TheVariants.{Sleep}
-use Rattle.css_schedule.specs.Owners.{is_sleep}
 use Rattle.css_num.specs.declared.protocol.Kind.TheVariants as kind
-use Rattle.css_tv.specs.declared.event.TvEvent.{TvEvent}
-use Rattle.css_schedule.specs.Ranges.{IsVerb}
 use Rattle.css_meaning.specs.Sessions.{peer_of, next_down}
 use Rattle.css_meaning.specs.Happened.{Numbered, datagrams, done_by, hearing, events_of, history_of, peer, bytes_of}
 use Rattle.css_meaning.specs.Numbering.{numbered}
@@ -32,6 +18,10 @@ use Rattle.css_meaning.specs.Clocks.{last_reading, has_woken, least_next, near_v
 use Rattle.css_meaning.specs.Verdicts.{tv_reading, own_reading, own_seen, seen_of_tv, seen_of, local_of, tested}
 use Rattle.css_meaning.specs.Worlds.{sleeps_of}
 use Rattle.css_meaning.specs.Accepted.{AreAccepted}
+use Rattle.css_meaning.proofs.Names.{option_or, result_ok, eqb_tells, LIMIT, Message, WcFault, precision_ns, Entry}
+use Rattle.css_meaning.proofs.Names.{History, Clock, Sent, Took, Slept, Dialled, Heard, Wrote, Each, Once, asking_at}
+use Rattle.css_meaning.proofs.Names.{sleeps, Header, Verb, Ask, Land, Wall, Print, Opening, Bring, Present, Close}
+use Rattle.css_meaning.proofs.Names.{Sleep, is_sleep, TvEvent, IsVerb}
 use Rattle.css_meaning.proofs.Ends.{history_now, history_other}
 use Rattle.css_meaning.proofs.Worlds.{second_ok, tested_ok, reading-ok, seen_own, seen_other, sleeps_woke, sleeps_awake}
 use Rattle.css_meaning.proofs.Worlds.{sleeps_other}
@@ -88,8 +78,7 @@ each_line header who P Known talk before adds (now ∷ older) known =
 
 -- what happened once happened once in a longer history
 pub once_by : (P : Entry → History → Type 0) (header : Header) (who : ℕ) (made : List Message) (events : List TvEvent)
-    (verb : Verb) (older : History)
-    → Once P older → Once P (done_by header who made events verb older)
+    (verb : Verb) (older : History) → Once P older → Once P (done_by header who made events verb older)
 once_by P header who made events verb older once = grind (arith, once)
 
 -- ---- sleeps
@@ -209,8 +198,7 @@ last_by number verb last = option_or (option_map (λ value. record { line = numb
 
 -- what was asked, with these readings
 abbrev HasAsked : Bool → Option Reading → History → Type 0
-HasAsked woken last history =
-    AreAskedBelow (sleeps history) (least_next woken last) (least_next true last) history
+HasAsked woken last history = AreAskedBelow (sleeps history) (least_next woken last) (least_next true last) history
 
 -- a reading that isn't below the least one leaves all that was asked below
 below_read : (woken : Bool) (last : Option Reading) (reading : ℕ) (history : History) → least_next woken last ≤ reading

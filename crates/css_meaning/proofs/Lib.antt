@@ -1,3 +1,4 @@
+pub mod Names
 pub mod Peers
 pub mod Ends
 pub mod Worlds

@@ -2,17 +2,9 @@
 use Rattle.std.proofs.Common.{◌≡◌, ℕ, ◌+◌, ◌<◌, ◌≤◌, ◌⊎◌, inl, inr, refl, ap, sym, subst, ◌∙◌, arith, Bool, true, false}
 use Rattle.std.proofs.Common.{cond, ◌==◌, List, [], ◌∷◌, ◌++◌, length, nat_lt, lt-ltb, ltb-true, ltb-false, eq-eqb}
 use Rattle.std.specs.Prelude.{Option, Some, None, option_map, Result, Ok, Err, IfOk}
-use Rattle.css_player.specs.Player.{Player}
 use Rattle.css_player.specs.Segments.{with_programme, with_timeline, commanded}
 use Rattle.css_player.specs.Events.{Event as PlayerCall, player_of}
-use Rattle.css_player.specs.declared.command.PlayerFault.{PlayerFault}
 use Rattle.css_tsmsg.specs.Setups.{setup_of as setup_read}
-use Rattle.css_tsmsg.specs.Presentations.{presentation_of}
-use Rattle.css_tsmsg.specs.declared.bound.Presentation.{Presentation}
-use Rattle.css_tsmsg.specs.declared.fault.TsFault.{TsFault}
-use Rattle.css_tsmsg.specs.declared.setup.Setup.{Setup}
-use Rattle.css_num.specs.declared.protocol.Kind.{Kind}
-use Rattle.css_sessions.specs.declared.session.Session.{Session}
 use Rattle.css_sessions.specs.Offsets.{control_for}
 use Rattle.css_sessions.specs.Kept.{Opened, SetUp, Closed, Kept, Rising, talk_of, set_up_in}
 use Rattle.css_sessions.specs.Told.{Life, Unset, TsLife, Lived, born, set_life, grown_life, living, ended, life_of}
@@ -22,12 +14,10 @@ use Rattle.css_tv.specs.Outcomes.{Outcome, outcome, outcome_at, by_player, progr
 use Rattle.css_tv.specs.Outcomes.{only, opened, by_setup, choice, windows_after, presented, by_presentation, heard}
 use Rattle.css_tv.specs.Stages.{max_sessions}
 use Rattle.css_tv.specs.States.{published_state}
-use Rattle.css_tv.specs.Standing.{Calls, calls_of, with_outcome}
-use Rattle.css_tv.specs.declared.event.TvEvent.{TvEvent}
 use Rattle.css_tv.specs.declared.event.TvEvent.TheVariants as event
-use Rattle.css_tv.specs.declared.fault.TvFault.{TvFault}
-use Rattle.css_tv.proofs.Keeping.{programme_controls}
 use Rattle.css_meaning.specs.Sessions.{addresses}
+use Rattle.css_meaning.proofs.Names.{Player, PlayerFault, presentation_of, Presentation, TsFault, Setup, Kind, Session}
+use Rattle.css_meaning.proofs.Names.{Calls, calls_of, with_outcome, TvEvent, TvFault, programme_controls}
 use Rattle.css_meaning.proofs.Entries.{concerns}
 use Rattle.css_meaning.proofs.Opening.{IsUnknown}
 use Rattle.css_meaning.proofs.Staging.{AreBelow, IsStaged, IsGrown, IsSound, stage_by, event_grown}

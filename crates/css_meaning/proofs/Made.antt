@@ -2,24 +2,15 @@
 use Rattle.std.proofs.Common.{◌≡◌, ℕ, suc, ◌<◌, ◌≤◌, ◌⊎◌, inl, inr, arith, ap, sym, subst, ◌∙◌, refl, Bool, true, false}
 use Rattle.std.proofs.Common.{cond, ◌==◌, not, List, [], ◌∷◌, ◌++◌, map, length, Option, Some, None, is_some, unwrap_or}
 use Rattle.std.proofs.Common.{◌||◌, eq-eqb, ne_eqb, option_map, option_to_list}
-use Rattle.std.proofs.lemmas.List.{length-map}
-use Rattle.std.proofs.lemmas.Bool.{and_parts, false≢true, or_right, not-true}
-use Rattle.css_model.specs.declared.TheConstants.{LIMIT}
-use Rattle.css_model.specs.declared.Message.{Message}
-use Rattle.css_model.specs.Numbers.{IsWithin, precision_ns}
-use Rattle.css_model.specs.World.{World}
-use Rattle.css_model.proofs.Lately.{IsIn}
-use Rattle.css_server.specs.Tickets.{Server, Ticket, answer_message, follow_up_to}
-use Rattle.css_schedule.specs.declared.header.Header.{Header}
-use Rattle.css_schedule.specs.declared.line.Verb.{Verb}
-use Rattle.css_schedule.specs.declared.line.Verb.TheVariants.{Give}
-use Rattle.css_schedule.specs.Ranges.{IsVerb}
 use Rattle.css_meaning.specs.Happened.{Numbered, requests, tickets, ticket_by, taken_for, server_of, answers_to}
 use Rattle.css_meaning.specs.Happened.{answers_by, datagrams, owners_by, made_for, gives, is_given}
 use Rattle.css_meaning.specs.Numbering.{numbered}
 use Rattle.css_meaning.specs.Verdicts.{tv_reading, can_exchange}
 use Rattle.css_meaning.specs.Accepted.{AreAccepted}
 use Rattle.css_meaning.specs.Worlds.{moment}
+use Rattle.css_meaning.proofs.Names.{length-map, and_parts, false≢true, or_right, not-true, LIMIT, Message, IsWithin}
+use Rattle.css_meaning.proofs.Names.{precision_ns, World, IsIn, Server, Ticket, answer_message, follow_up_to, Header}
+use Rattle.css_meaning.proofs.Names.{Verb, Give, IsVerb}
 use Rattle.css_meaning.proofs.Worlds.{tested_ok}
 use Rattle.css_meaning.proofs.Ends.{can_exchange_now}
 use Rattle.css_meaning.proofs.Moments.{Agrees, NearBy, tv_near}
@@ -59,11 +50,13 @@ made_by header at taken owners (Give take reading) =
     made_to header at take (unwrap_or (numbered take owners) 0) reading (numbered take taken)
 made_by header at taken owners _ = []
 
--- the datagrams of lines
+-- those that it makes after lines, and those of all lines
+abbrev made_at : Header → List Numbered → Verb → List Made
+made_at header older verb = made_by header (length older) (tickets header older) (taken_for older) verb
+
 abbrev pub made : Header → List Numbered → List Made
 made header [] = []
-made header (now ∷ older) =
-    made_by header (length older) (tickets header older) (taken_for older) now.line.verb ++ made header older
+made header (now ∷ older) = made_at header older now.line.verb ++ made header older
 
 -- ---- the same datagrams
 abbrev message_of : Made → Message
@@ -81,15 +74,13 @@ part-append part (x ∷ xs) ys = ap (λ ms. part x ∷ ms) (part-append part xs 
 messages-map : (at take owner reading : ℕ) (ticket : Ticket) (ms : List Message)
     → map message_of (map (tagged at take owner reading ticket) ms) ≡ ms
 messages-map at take owner reading ticket [] = refl
-messages-map at take owner reading ticket (m ∷ ms) =
-    ap (λ xs. m ∷ xs) (messages-map at take owner reading ticket ms)
+messages-map at take owner reading ticket (m ∷ ms) = ap (λ xs. m ∷ xs) (messages-map at take owner reading ticket ms)
 
 -- they are all for one companion
 owners-map : (at take owner reading : ℕ) (ticket : Ticket) (ms : List Message)
     → map owner_of (map (tagged at take owner reading ticket) ms) ≡ map (λ (m : Message). owner) ms
 owners-map at take owner reading ticket [] = refl
-owners-map at take owner reading ticket (m ∷ ms) =
-    ap (λ xs. owner ∷ xs) (owners-map at take owner reading ticket ms)
+owners-map at take owner reading ticket (m ∷ ms) = ap (λ xs. owner ∷ xs) (owners-map at take owner reading ticket ms)
 
 -- those of a ticket are its answers
 messages-to : (header : Header) (at take owner reading : ℕ) (o : Option Ticket)
@@ -122,8 +113,7 @@ owners-by header at taken owners _ = refl
 messages-made : (header : Header) (lines : List Numbered) → map message_of (made header lines) ≡ datagrams header lines
 messages-made header [] = refl
 messages-made header (now ∷ older) =
-    part-append message_of (made_by header (length older) (tickets header older) (taken_for older) now.line.verb)
-    (made header older)
+    part-append message_of (made_at header older now.line.verb) (made header older)
     ∙ ap (λ xs. xs ++ map message_of (made header older))
     (messages-by header (length older) (tickets header older) (taken_for older) now.line.verb)
     ∙ ap (λ ys. answers_by header (tickets header older) now.line.verb ++ ys) (messages-made header older)
@@ -132,8 +122,7 @@ messages-made header (now ∷ older) =
 owners-made : (header : Header) (lines : List Numbered) → map owner_of (made header lines) ≡ made_for header lines
 owners-made header [] = refl
 owners-made header (now ∷ older) =
-    part-append owner_of (made_by header (length older) (tickets header older) (taken_for older) now.line.verb)
-    (made header older)
+    part-append owner_of (made_at header older now.line.verb) (made header older)
     ∙ ap (λ xs. xs ++ map owner_of (made header older))
     (owners-by header (length older) (tickets header older) (taken_for older) now.line.verb)
     ∙ ap (λ ys. owners_by header (tickets header older) (taken_for older) now.line.verb ++ ys)
@@ -231,8 +220,7 @@ numbered-with number (Some item) older a e = numbered-stays number item older a 
 
 -- what is known of a datagram is known after one more line
 made-longer : (world : World) (moment_of : ℕ → ℕ) (header : Header) (who : ℕ) (now : Numbered) (older : List Numbered)
-    (d : Made)
-    → IsMade world moment_of header who older d → IsMade world moment_of header who (now ∷ older) d
+    (d : Made) → IsMade world moment_of header who older d → IsMade world moment_of header who (now ∷ older) d
 made-longer world moment_of header who now older d is = record {
   tells = is.tells;
   in_tickets = numbered-with d.take (ticket_by header (requests older) (tickets header older) now.line.verb)
@@ -289,13 +277,11 @@ owner_there (Some w) who first e = ap Some e
 
 -- the datagrams for companion `who` of a line that answers a take
 made_by-line : (world : World) (moment_of : ℕ → ℕ) (header : Header) (who : ℕ) (now : Numbered) (older : List Numbered)
-    (d : Made) (verb : Verb) → now.line.verb ≡ verb
-    → 1 ≤ who → IsVerb verb → world (length older) ≡ moment older now
+    (d : Made) (verb : Verb) → now.line.verb ≡ verb → 1 ≤ who → IsVerb verb → world (length older) ≡ moment older now
     → NearBy (precision_ns header.tv_precision) now.line.w (tv_reading verb)
     → ((number : ℕ) (ticket : Ticket) → numbered number (tickets header older) ≡ Some ticket
     → numbered number (taken_for older) ≡ Some who → IsTaken world moment_of header who older ticket)
-    → d.owner ≡ who → IsIn d (made_by header (length older) (tickets header older) (taken_for older) verb)
-    → IsMade world moment_of header who (now ∷ older) d
+    → d.owner ≡ who → IsIn d (made_at header older verb) → IsMade world moment_of header who (now ∷ older) d
 made_by-line world moment_of header who now older d (Give take reading) is first range at near taken owned h =
     by (numbered take (tickets header older)) refl h
   where
@@ -333,8 +319,7 @@ pub made_each : (world : World) (moment_of : ℕ → ℕ) (header : Header) (who
     → d.owner ≡ who → IsIn d (made header lines) → IsMade world moment_of header who lines d
 made_each world moment_of header who [] d first accepted agreed owned h = absurd h
 made_each world moment_of header who (now ∷ older) d first accepted agreed owned h =
-    elim (in-append (made_by header (length older) (tickets header older) (taken_for older) now.line.verb)
-    (made header older) d h) [
+    elim (in-append (made_at header older now.line.verb) (made header older) d h) [
       | inl p ↦ made_by-line world moment_of header who now older d now.line.verb refl first accepted.0.verb agreed.0
           (tv_near header older now (tested_ok header older now accepted.3.0 accepted.3.1))
           (λ number ticket p q. taken_each world moment_of header who older number ticket accepted.4 agreed.2 p q)
@@ -351,8 +336,7 @@ record IsGivenNow (older : List Numbered) (d : Made) : Type 0 where
 
 -- what this verb makes is given at this line
 given_now : (header : Header) (older : List Numbered) (who : ℕ) (d : Made) (verb : Verb)
-    → can_exchange header older who verb ≡ true
-    → IsIn d (made_by header (length older) (tickets header older) (taken_for older) verb) → IsGivenNow older d
+    → can_exchange header older who verb ≡ true → IsIn d (made_at header older verb) → IsGivenNow older d
 given_now header older who d (Give take reading) can h = by (numbered take (tickets header older)) h
   where
     fresh : is_given take older ≡ false
@@ -374,14 +358,12 @@ given_before : (header : Header) (lines : List Numbered) (d : Made) → IsIn d (
     → is_given d.take lines ≡ true
 given_before header [] d h = absurd h
 given_before header (now ∷ older) d h =
-    elim (in-append (made_by header (length older) (tickets header older) (taken_for older) now.line.verb)
-    (made header older) d h) [
+    elim (in-append (made_at header older now.line.verb) (made header older) d h) [
       | inl p ↦ by now.line.verb p
       | inr q ↦ or_right (gives d.take now.line.verb) (is_given d.take older) (given_before header older d q)
     ]
   where
-    by : (verb : Verb) → IsIn d (made_by header (length older) (tickets header older) (taken_for older) verb)
-        → (gives d.take verb || is_given d.take older) ≡ true
+    by : (verb : Verb) → IsIn d (made_at header older verb) → (gives d.take verb || is_given d.take older) ≡ true
     by (Give take reading) p = to (numbered take (tickets header older)) p
       where
         owner : ℕ
@@ -402,7 +384,7 @@ one_giving header (now ∷ older) a b accepted p q e =
     by (in-append here rest a p) (in-append here rest b q) (λ u v. one_giving header older a b accepted.4 u v e)
   where
     here : List Made
-    here = made_by header (length older) (tickets header older) (taken_for older) now.line.verb
+    here = made_at header older now.line.verb
 
     rest : List Made
     rest = made header older

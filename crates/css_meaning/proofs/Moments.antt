@@ -3,22 +3,15 @@ use Rattle.std.proofs.Common.{◌≡◌, ℕ, suc, ◌-◌, ◌<◌, ◌≤◌, 
 use Rattle.std.proofs.Common.{false, cond, ◌==◌, ltb, List, [], ◌∷◌, length, ◌&&◌, Option, Some, None, IfSome, Ok}
 use Rattle.std.proofs.Common.{lt-ltb, le-ltb, ltb-true, ltb-false, eq-eqb}
 use Rattle.std.specs.Int.{abs_diff}
-use Rattle.css_model.specs.declared.Message.{Message}
-use Rattle.css_model.specs.Numbers.{IsWithin, precision_ns}
-use Rattle.css_model.specs.World.{World, Moment, OwnClock, Reads}
-use Rattle.css_schedule.specs.Owners.{is_sleep}
-use Rattle.css_model.specs.History.{Entry, History, Each, sleeps}
 use Rattle.css_model.specs.Explains.{HappensIn, ReadsAt}
-use Rattle.css_schedule.specs.declared.header.Header.{Header}
-use Rattle.css_schedule.specs.declared.line.Verb.{Verb}
-use Rattle.css_schedule.specs.declared.line.Verb.TheVariants.{Ask, Land, Wall, Print}
-use Rattle.css_tv.specs.declared.event.TvEvent.{TvEvent}
 use Rattle.css_meaning.specs.declared.reading.Reading.{Reading}
 use Rattle.css_meaning.specs.Happened.{Numbered, datagrams, done_by, events_of, history_of}
 use Rattle.css_meaning.specs.Worlds.{world_of, sleeps_of, moment, moment_number}
 use Rattle.css_meaning.specs.Clocks.{near_verdict, order_verdict, reading_verdict, last_reading, has_woken}
 use Rattle.css_meaning.specs.Verdicts.{tv_reading, own_reading, seen_of_tv, seen_of, local_of, tested}
 use Rattle.css_meaning.specs.Accepted.{AreAccepted}
+use Rattle.css_meaning.proofs.Names.{Message, IsWithin, precision_ns, World, Moment, OwnClock, Reads, is_sleep, Entry}
+use Rattle.css_meaning.proofs.Names.{History, Each, sleeps, Header, Verb, Ask, Land, Wall, Print, TvEvent}
 use Rattle.css_meaning.proofs.Worlds.{tested_ok, reading-ok, world-older, world-now, first_ok, sleeps_awake}
 use Rattle.css_meaning.proofs.Ends.{history_now}
 use Rattle.css_meaning.proofs.Lawful.{done_at, IsTalk, Adds, each_line, own_passes, sleeps_are}
@@ -102,8 +95,7 @@ numbers-rise header who (now ∷ older) i j le =
     n : ℕ
     n = length (history_of who header older)
 
-    by : (b c : Bool) → ltb i n ≡ b → ltb j n ≡ c
-        → moment_number who header older i ≤ moment_number who header older j
+    by : (b c : Bool) → ltb i n ≡ b → ltb j n ≡ c → moment_number who header older i ≤ moment_number who header older j
         → cond b (moment_number who header older i) (length older) ≤ cond c
         (moment_number who header older j) (length older)
     by true true p q h = h
@@ -150,8 +142,7 @@ tv_near header older now e =
 
 -- and that of its companion is near its own clock
 pub own_near : (header : Header) (older : List Numbered) (now : Numbered) (who : ℕ) → now.line.who ≡ who
-    → tested header older now ≡ Ok tt
-    → NearBy (local_of who header).precision now.line.l (own_reading now.line.verb)
+    → tested header older now ≡ Ok tt → NearBy (local_of who header).precision now.line.l (own_reading now.line.verb)
 own_near header older now who own e =
     near_by now.number (local_of who header).precision now.line.l (has_woken (seen_of who older))
     (last_reading (seen_of who older)) (own_reading now.line.verb) (own_passes header older now who own e)

@@ -1,11 +1,7 @@
 -- The television knows nothing of a session that its companion never opened.
 use Rattle.std.proofs.Common.{◌≡◌, ℕ, ap, ◌∙◌, Bool, false, cond, ◌==◌, List, [], ◌∷◌, ◌++◌, arith, option_to_list}
 use Rattle.std.specs.Prelude.{⊤, Option, Some, None, option_map, Result, Ok, Err, IfOk, IfSome}
-use Rattle.css_model.specs.declared.Message.{Message}
-use Rattle.css_model.specs.History.{History}
-use Rattle.css_player.specs.Player.{Player}
 use Rattle.css_player.specs.Events.{player_of}
-use Rattle.css_num.specs.declared.protocol.Kind.{Kind}
 use Rattle.css_num.specs.declared.protocol.Kind.TheVariants as kind
 use Rattle.css_sessions.specs.declared.session.Talk.TheVariants as talk
 use Rattle.css_sessions.specs.Offsets.{control_for}
@@ -16,15 +12,11 @@ use Rattle.css_sessions.specs.Told.{life_of, sessions_of}
 use Rattle.css_sessions.proofs.Talks.{talk_of-with_session, talk_of-with_talk, talk_of-renewed, talk_of-mapped}
 use Rattle.css_sessions.proofs.Talks.{talk_of-windowed_at, talk_of-without}
 use Rattle.css_tv.specs.Outcomes.{Outcome, outcome}
-use Rattle.css_tv.specs.Standing.{Calls, calls_of, with_outcome}
-use Rattle.css_tv.specs.declared.event.TvEvent.{TvEvent}
 use Rattle.css_tv.specs.declared.event.TvEvent.TheVariants as event
-use Rattle.css_tv.specs.declared.fault.TvFault.{TvFault}
-use Rattle.css_tv.specs.declared.state.Addresses.{Addresses}
-use Rattle.css_schedule.specs.declared.header.Header.{Header}
-use Rattle.css_schedule.specs.declared.line.Verb.{Verb}
 use Rattle.css_meaning.specs.Sessions.{addresses, peer_of, was_opened}
 use Rattle.css_meaning.specs.Happened.{event_by, done_by}
+use Rattle.css_meaning.proofs.Names.{Message, History, Player, Kind, Calls, calls_of, with_outcome, TvEvent, TvFault}
+use Rattle.css_meaning.proofs.Names.{Addresses, Header, Verb}
 use Rattle.css_meaning.proofs.Ends.{events_with}
 
 -- ---- one call
@@ -137,8 +129,7 @@ IsNeverOpened who k events own =
 
 -- what was never opened after a verb was never opened before it
 never_before : (header : Header) (who : ℕ) (peer : ℕ) (made : List Message) (v : Verb) (events : List TvEvent)
-    (own : History)
-    → was_opened peer (done_by header who made events v own) ≡ false → was_opened peer own ≡ false
+    (own : History) → was_opened peer (done_by header who made events v own) ≡ false → was_opened peer own ≡ false
 never_before header who peer made v events own never = grind (arith, never)
 
 -- and is not opened by it

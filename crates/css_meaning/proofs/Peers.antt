@@ -1,8 +1,8 @@
 -- The peers of companions: no two sessions have the same one.
 use Rattle.std.proofs.Common.{◌≡◌, ◌≢◌, ℕ, ◌*◌, ◌≤◌, arith, false, ◌==◌, ne_eqb}
-use Rattle.css_num.specs.declared.protocol.Kind.{Kind}
 use Rattle.css_num.specs.declared.protocol.Kind.TheVariants as kind
 use Rattle.css_meaning.specs.Sessions.{peer_of}
+use Rattle.css_meaning.proofs.Names.{Kind}
 
 -- the peers of a companion's two sessions
 abbrev pub cii_of : ℕ → ℕ

@@ -3,31 +3,23 @@ use Rattle.std.proofs.Common.{◌≡◌, ℕ, zero, suc, ◌-◌, ◌*◌, ◌<�
 use Rattle.std.proofs.Common.{List, [], ◌∷◌, ◌++◌, length, set, nat_lt, nat_le, ltb-false, mul-le-mul}
 use Rattle.std.specs.Prelude.{ℤ, pos, ◌*ℤ◌, unsigned_abs, int_lt, map, find, bytes_eq, nat_eq, slice_get, Option, Some}
 use Rattle.std.specs.Prelude.{None, IfSome, option_map, option_and_then, Result, Ok, Err}
-use Rattle.std.specs.List.{AllByRecursion, starts_with}
 use Rattle.std.specs.Str.{IsUtf8}
-use Rattle.std.proofs.lemmas.Int.{ints, unsigned_abs-mul}
-use Rattle.css_model.specs.declared.TheConstants.{LIMIT}
-use Rattle.css_num.specs.Rates.{IsTickRate}
-use Rattle.css_num.specs.declared.control.Control.TheVariants.{Unavailable}
 use Rattle.css_num.proofs.Rounding.{floor_div-within}
 use Rattle.css_cii.specs.Texts.{EachIn, SelectorsAreUtf8, RatesAreInRange}
-use Rattle.css_player.specs.Player.{Track, Programme, Segment, Player, media_limit, max_delay, IsSegment, IsTrack}
-use Rattle.css_player.specs.Player.{IsPublished}
 use Rattle.css_player.specs.Segments.{numbered, track_of, tick_of, changed_to, sped, sped_to, sought, sought_to, placed}
 use Rattle.css_player.specs.Segments.{turned, delayed, with_segment, commanded, with_delay, with_programme, with_track}
 use Rattle.css_player.specs.Segments.{longer, told_of, present, control_of, control_from, control_in, control_at}
-use Rattle.css_player.specs.declared.command.Command.{Command}
 use Rattle.css_player.specs.declared.command.Command.TheVariants as command
 use Rattle.css_player.specs.declared.command.PlayerFault.TheVariants as fault
 use Rattle.css_tsmsg.specs.Controls.{IsInRange}
-use Rattle.css_tsmsg.specs.declared.setup.Setup.{Setup}
 use Rattle.css_sessions.specs.Offsets.{control_for}
 use Rattle.css_sessions.specs.Told.{IsReadable}
 use Rattle.css_sessions.proofs.Ranges.{published}
 use Rattle.css_tv.specs.States.{published_state}
-use Rattle.css_tv.specs.declared.state.Addresses.{Addresses}
 use Rattle.css_tv.proofs.States.{state_utf8}
-use Rattle.css_tv.proofs.Keeping.{ok_same}
+use Rattle.css_meaning.proofs.Names.{AllByRecursion, starts_with, ints, unsigned_abs-mul, LIMIT, IsTickRate}
+use Rattle.css_meaning.proofs.Names.{Unavailable, Track, Programme, Segment, Player, media_limit, max_delay, IsSegment}
+use Rattle.css_meaning.proofs.Names.{IsTrack, IsPublished, Command, Setup, Addresses, ok_same}
 
 -- a timeline's base and its rate are in range, and its selector is UTF-8
 pub record IsPlayableTrack (t : Track) : Type 0 where

@@ -2,28 +2,18 @@
 use Rattle.std.proofs.Common.{◌≡◌, ℕ, ◌<◌, ◌⊎◌, arith, ap, sym, subst, ◌∙◌, refl, Bool, true, false, cond, List, []}
 use Rattle.std.proofs.Common.{◌∷◌, ℤ, pos, negsuc, ◌+ℤ◌, ◌≤ℤ◌, Option, Some, None, Ok, map, find, bytes_eq, nat_eq}
 use Rattle.std.proofs.Common.{unsigned_abs, option_map, option_and_then}
-use Rattle.std.specs.List.{starts_with}
-use Rattle.std.specs.Option.{option_or}
-use Rattle.std.proofs.lemmas.Int.{ints}
-use Rattle.css_num.specs.Rates.{TickRate}
-use Rattle.css_num.specs.declared.control.Control.{Control}
-use Rattle.css_num.specs.declared.control.Control.TheVariants.{Unavailable}
-use Rattle.css_num.specs.declared.timeline.Timeline.{Timeline}
-use Rattle.css_tsmsg.specs.declared.setup.Setup.{Setup}
-use Rattle.css_player.specs.Player.{Player, Programme, Segment, Track}
 use Rattle.css_player.specs.Segments.{numbered, present, track_of, told_of, tick_of, position_at, control_at}
 use Rattle.css_player.specs.Segments.{control_in, control_from, rate_in}
 use Rattle.css_sessions.specs.Offsets.{control_for}
 use Rattle.css_tv.specs.States.{timelines_of}
-use Rattle.css_companion.specs.Positions.{position}
-use Rattle.css_companion.specs.Reports.{assigned_by, timing_by, timing_of}
 use Rattle.css_companion.specs.TimelineRates.{first_rate, rate_of, unlisted_rate}
 use Rattle.css_meaning.specs.Arrived.{published_tick, IsShownAt}
+use Rattle.css_meaning.proofs.Names.{starts_with, option_or, ints, TickRate, Control, Unavailable, Timeline, Setup}
+use Rattle.css_meaning.proofs.Names.{Player, Programme, Segment, Track, position, assigned_by, timing_by, timing_of}
 use Rattle.css_meaning.proofs.Floors.{shown_nearly}
 
 -- the first rate with a selector is that of the first timeline with it
-first_rate-told : (selector : List ℕ) (tracks : List Track)
-    → first_rate selector (map told_of tracks)
+first_rate-told : (selector : List ℕ) (tracks : List Track) → first_rate selector (map told_of tracks)
     ≡ option_map (λ (t : Track). t.rate) (find (λ t. bytes_eq t.selector selector) tracks)
 first_rate-told selector [] = refl
 first_rate-told selector (t ∷ tracks) = by (bytes_eq t.selector selector) (first_rate-told selector tracks)
@@ -97,8 +87,7 @@ size-is (negsuc n) low = absurd (omega (arith, ints, low))
 
 -- a timeline shows this tick, or the next one
 abbrev IsNearly : Track → Segment → ℕ → ℤ → Type 0
-IsNearly track s wall tick =
-    (position_at track s (pos wall) ≡ tick) ⊎ (position_at track s (pos wall) ≡ tick +ℤ pos 1)
+IsNearly track s wall tick = (position_at track s (pos wall) ≡ tick) ⊎ (position_at track s (pos wall) ≡ tick +ℤ pos 1)
 
 -- the published tick of a segment is the position that is shown, or one less
 shown-in : (stem selector : List ℕ) (s : Segment) (o : Option Programme) (track : Track) (wall : ℕ) (tick : ℤ)

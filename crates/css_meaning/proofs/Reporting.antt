@@ -1,11 +1,8 @@
 -- What an accepted line promises of the sessions and of a report.
 use Rattle.std.proofs.Common.{◌≡◌, ℕ, refl, ap, ◌∙◌, arith, cond, le-ltb, List, ◌∷◌, length}
-use Rattle.css_schedule.specs.Owners.{is_own}
 use Rattle.css_model.specs.declared.Why.TheVariants as why
-use Rattle.css_model.specs.History.{Clock}
 use Rattle.css_model.specs.Explains.{Explains, IsLawful}
 use Rattle.css_companion.proofs.Headline.{headline}
-use Rattle.css_schedule.specs.declared.header.Header.{Header}
 use Rattle.css_meaning.specs.Sessions.{setup_of}
 use Rattle.css_meaning.specs.Happened.{Numbered, datagrams, done_by, events_of, history_of}
 use Rattle.css_meaning.specs.Verdicts.{IsDeclared, local_of}
@@ -13,6 +10,7 @@ use Rattle.css_meaning.specs.Worlds.{world_of, moment, moment_number, errors_of}
 use Rattle.css_meaning.specs.Accepted.{AreAccepted}
 use Rattle.css_meaning.specs.Truth.{IsTrueWall, IsTrueReport, IsPossibleLanding, AreToldInOrder, AreInStepAt}
 use Rattle.css_meaning.specs.Truth.{IsTrueLine, AreWorldOf, AreWorld}
+use Rattle.css_meaning.proofs.Names.{is_own, Clock, Header}
 use Rattle.css_meaning.proofs.Ends.{history_now}
 use Rattle.css_meaning.proofs.InOrder.{are_told_in_order}
 use Rattle.css_meaning.proofs.InStep.{in_step}

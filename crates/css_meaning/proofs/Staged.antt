@@ -1,25 +1,16 @@
 -- What happens at the television comes of its own companion, at each line: both ends go on from line to line.
-use Rattle.std.proofs.Common.{◌≡◌, ◌≢◌, ℕ, ◌*◌, ◌≤◌, refl, arith, true, false, inl, inr, ne_eqb, List, []}
-use Rattle.std.proofs.Common.{◌∷◌, ◌++◌, length, Option, Some, None, IfSome, ◌==◌, option_to_list, option_map}
-use Rattle.std.proofs.lemmas.Bool.Decides.{eqb_tells}
-use Rattle.css_model.specs.declared.Message.{Message}
-use Rattle.css_schedule.specs.Owners.{is_own}
+use Rattle.std.proofs.Common.{◌≡◌, ◌≢◌, ℕ, ◌*◌, ◌≤◌, refl, arith, true, false, inl, inr, ne_eqb, List, [], ◌∷◌, ◌++◌}
+use Rattle.std.proofs.Common.{length, Option, Some, None, IfSome, ◌==◌, option_to_list, option_map}
 use Rattle.css_num.specs.declared.protocol.Kind.TheVariants as kind
-use Rattle.css_model.specs.History.{History}
-use Rattle.css_num.specs.declared.protocol.Kind.{Kind}
 use Rattle.css_sessions.specs.Kept.{talk_of}
 use Rattle.css_sessions.specs.Told.{life_of, sessions_of}
-use Rattle.css_tv.specs.Standing.{calls_of}
-use Rattle.css_tv.specs.declared.event.TvEvent.{TvEvent}
 use Rattle.css_tv.specs.declared.event.TvEvent.TheVariants as event
-use Rattle.css_schedule.specs.declared.header.Header.{Header}
-use Rattle.css_schedule.specs.declared.line.Verb.{Verb}
 use Rattle.css_schedule.specs.declared.line.Verb.TheVariants as verb
-use Rattle.css_schedule.specs.Ranges.{IsVerb}
 use Rattle.css_meaning.specs.Sessions.{addresses, peer_of, was_opened, next_up}
 use Rattle.css_meaning.specs.Happened.{Numbered, datagrams, event_by, done_by, events_of, history_of}
 use Rattle.css_meaning.specs.Verdicts.{can_talk}
 use Rattle.css_meaning.specs.Accepted.{AreAccepted}
+use Rattle.css_meaning.proofs.Names.{eqb_tells, Message, is_own, History, Kind, calls_of, TvEvent, Header, Verb, IsVerb}
 use Rattle.css_meaning.proofs.Ends.{events_with, events_now, history_now, history_other, can_talk_now}
 use Rattle.css_meaning.proofs.Opening.{IsNeverOpened, opens_at, stays_unknown, unknown_by}
 use Rattle.css_meaning.proofs.Entries.{concerns}
@@ -139,8 +130,7 @@ staging header (now ∷ older) accepted =
 pub never_opened : (header : Header) (lines : List Numbered) (who : ℕ) (k : Kind) → 1 ≤ who → AreAccepted header lines
     → was_opened (peer_of who k) (history_of who header lines) ≡ false
     → life_of (peer_of who k) (calls_of addresses (events_of header lines)).sessions ≡ None
-never_opened header lines who k first accepted never =
-    ((staging header lines accepted).unknown who first k never).life
+never_opened header lines who k first accepted never = ((staging header lines accepted).unknown who first k never).life
 
 -- and no talk
 pub no_talk : (header : Header) (lines : List Numbered) (who : ℕ) (k : Kind) → 1 ≤ who → AreAccepted header lines
@@ -164,8 +154,7 @@ IsKeptApart who P = (e : TvEvent) (events : List TvEvent) (own : History)
 
 -- so it is kept where there may be an event
 apart_kept : (who : ℕ) (P : List TvEvent → History → Type 0) (o : Option TvEvent) (events : List TvEvent)
-    (own : History) → IsKeptApart who P
-    → ((k : Kind) → IfSome o (λ e. concerns (peer_of who k) e ≡ false))
+    (own : History) → IsKeptApart who P → ((k : Kind) → IfSome o (λ e. concerns (peer_of who k) e ≡ false))
     → IfSome o (λ e. IsSound e (calls_of addresses events).sessions)
     → IsStaging who events own → IsStaging who (option_to_list o ++ events) own → P events own
     → P (option_to_list o ++ events) own
@@ -197,8 +186,7 @@ each_end header who P first start kept apart (now ∷ older) accepted =
           let es = events_now header now older who same.1 in
           let h = history_now header now older who same.1 in
           let done = done_by header who made events v own in
-          let staged : IsStaging who (events_with who events own v) done =
-          rw es at (rw h at after) in
+          let staged : IsStaging who (events_with who events own v) done = rw es at (rw h at after) in
           rw h (rw es (kept made v events own accepted.0.verb can all.below before staged p))
       | inr differs ↦
           let h = history_other header now older who differs.1 in

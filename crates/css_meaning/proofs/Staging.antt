@@ -1,31 +1,18 @@
 -- The television stands for the events of accepted lines, and all that it tells can be told.
-use Rattle.std.proofs.Common.{◌≡◌, ℕ, zero, suc, ◌*◌, ◌<◌, ◌≤◌, refl, ap, arith, Bool, true, false, cond, List}
-use Rattle.std.proofs.Common.{[], ◌∷◌, ◌++◌, length, option_to_list, option_map}
+use Rattle.std.proofs.Common.{◌≡◌, ℕ, zero, suc, ◌*◌, ◌<◌, ◌≤◌, refl, ap, arith, Bool, true, false, cond, List, [], ◌∷◌}
+use Rattle.std.proofs.Common.{◌++◌, length, option_to_list, option_map}
 use Rattle.css_num.specs.declared.protocol.Kind.TheVariants as kind
-use Rattle.css_schedule.specs.Owners.{is_own}
 use Rattle.std.specs.Prelude.{⊤, All, Option, Some, None, IfSome, Result, Ok, Err, IfOk, pos, nat_lt, ◌==◌, codes}
 use Rattle.std.specs.Str.{IsUtf8}
 use Rattle.std.specs.Ordering.{int_eq}
 use Rattle.std.proofs.lemmas.List.Elements.{All-nil, All-cons}
-use Rattle.css_model.specs.History.{History}
-use Rattle.css_model.specs.declared.TheConstants.{LIMIT}
-use Rattle.css_num.specs.Rates.{IsTickRate}
-use Rattle.css_player.specs.Player.{Player, Segment, Track, max_delay}
 use Rattle.css_player.specs.Segments.{idle, with_programme, with_timeline, commanded, with_delay}
 use Rattle.css_player.specs.Events.{ProgrammeAdded, TimelineAdded, Commanded, Delayed, player_of}
 use Rattle.css_player.specs.Events.{StandsFor as PlayerStandsFor}
-use Rattle.css_player.specs.declared.command.Command.{Command}
-use Rattle.css_player.specs.declared.command.PlayerFault.{PlayerFault}
 use Rattle.css_player.proofs.Standing.{stands_more as player_more}
 use Rattle.css_tsmsg.specs.Setups.{setup_of as setup_read}
-use Rattle.css_tsmsg.specs.Presentations.{presentation_of}
-use Rattle.css_tsmsg.specs.declared.bound.Presentation.{Presentation}
-use Rattle.css_tsmsg.specs.declared.fault.TsFault.{TsFault}
-use Rattle.css_tsmsg.specs.declared.setup.Setup.{Setup}
 use Rattle.css_window.specs.Demand.{Demand}
 use Rattle.css_window.specs.Least.{or_else, least_below, fits_all, least_fit}
-use Rattle.css_num.specs.declared.protocol.Kind.{Kind}
-use Rattle.css_sessions.specs.declared.session.Session.{Session}
 use Rattle.css_sessions.specs.declared.session.Talk.{Talk}
 use Rattle.css_sessions.specs.declared.session.Talk.TheVariants as talk
 use Rattle.css_sessions.specs.Kept.{Event as SessionsCall, Opened, SetUp, Closed, Presented, Dropped, Kept, talk_of}
@@ -37,28 +24,22 @@ use Rattle.css_tv.specs.Stages.{Stage, IsStage, max_sessions}
 use Rattle.css_tv.specs.Outcomes.{Outcome, outcome, outcome_at, stage_after, kept_after, by_player, published}
 use Rattle.css_tv.specs.Outcomes.{programme_added, timeline_added, viewed, only, hung_up, opened, by_setup, other_than}
 use Rattle.css_tv.specs.Outcomes.{choice, windows_after, presented, by_presentation, heard}
-use Rattle.css_tv.specs.Standing.{Calls, calls_of, with_outcome}
-use Rattle.css_tv.specs.declared.event.TvEvent.{TvEvent}
 use Rattle.css_tv.specs.declared.event.TvEvent.TheVariants as event
-use Rattle.css_tv.specs.declared.fault.TvFault.{TvFault}
-use Rattle.css_tv.specs.declared.state.Addresses.{Addresses}
 use Rattle.css_tv.proofs.HostTexts.{wc_utf8, ts_utf8}
-use Rattle.css_tv.proofs.Keeping.{keeps}
-use Rattle.css_schedule.specs.declared.line.Verb.{Verb}
 use Rattle.css_schedule.specs.declared.line.Verb.TheVariants as verb
-use Rattle.css_schedule.specs.Ranges.{IsVerb}
 use Rattle.css_meaning.specs.Sessions.{addresses, peer_of, was_opened, next_up}
 use Rattle.css_meaning.specs.Happened.{event_by}
 use Rattle.css_meaning.specs.Verdicts.{can_talk}
+use Rattle.css_meaning.proofs.Names.{is_own, History, LIMIT, IsTickRate, Player, Segment, Track, max_delay, Command}
+use Rattle.css_meaning.proofs.Names.{PlayerFault, presentation_of, Presentation, TsFault, Setup, Kind, Session, Calls}
+use Rattle.css_meaning.proofs.Names.{calls_of, with_outcome, TvEvent, TvFault, Addresses, keeps, Verb, IsVerb, not-true}
 use Rattle.css_meaning.proofs.Opening.{IsUnknown, IsNeverOpened}
 use Rattle.css_meaning.proofs.Playing.{IsPlayable, programme_playable, timeline_playable, command_playable}
 use Rattle.css_meaning.proofs.Playing.{delay_playable, control_in_range, state_readable}
-use Rattle.std.proofs.lemmas.Bool.{not-true}
 
 -- what is shown and told after calls
 abbrev pub stage_by : Addresses → Calls → Stage
-stage_by a calls =
-    record { addresses = a; player = player_of calls.player; sessions = sessions_of calls.sessions }
+stage_by a calls = record { addresses = a; player = player_of calls.player; sessions = sessions_of calls.sessions }
 
 -- The player and the sessions stand for their calls, what always holds of a television holds, and the player's numbers
 -- are in range.

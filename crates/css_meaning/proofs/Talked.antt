@@ -2,35 +2,26 @@
 use Rattle.std.proofs.Common.{◌≡◌, ℕ, zero, suc, ◌-◌, ◌*◌, ◌≤◌, refl, ap, sym, subst, ◌∙◌, arith, Bool, true, false}
 use Rattle.std.proofs.Common.{◌||◌, List, [], ◌∷◌, ◌++◌, length, Option, Some, None, is_some, option_map, unwrap_or}
 use Rattle.std.proofs.Common.{slice_get, All, option_to_list}
-use Rattle.std.proofs.lemmas.Bool.{and_parts, not-true}
 use Rattle.std.proofs.lemmas.List.Elements.{All-head, All-tail}
 use Rattle.std.proofs.lemmas.Str.{IsUtf8-nil}
 use Rattle.css_model.specs.declared.Kind.TheVariants as session
-use Rattle.css_model.specs.declared.Message.{Message}
-use Rattle.css_model.specs.History.{History, Dialled, Wrote, Closed}
-use Rattle.css_tsmsg.specs.Presentations.{presentation_text, IsPresentation}
+use Rattle.css_model.specs.History.{Closed}
 use Rattle.css_tsmsg.specs.Setups.{IsUtf8Setup, setup_text}
-use Rattle.css_tsmsg.specs.declared.bound.Presentation.{Presentation}
-use Rattle.css_tsmsg.specs.declared.setup.Setup.{Setup}
-use Rattle.css_tsmsg.proofs.ReadBack.{setup_reads}
-use Rattle.css_num.specs.declared.protocol.Kind.{Kind}
 use Rattle.css_num.specs.declared.protocol.Kind.TheVariants as kind
 use Rattle.css_sessions.specs.Told.{Unset, ended}
 use Rattle.css_tv.specs.States.{published_state}
-use Rattle.css_tv.specs.Standing.{calls_of}
-use Rattle.css_tv.specs.declared.event.TvEvent.{TvEvent}
 use Rattle.css_tv.specs.declared.event.TvEvent.TheVariants as event
 use Rattle.css_companion.specs.Meanings.{kind_of, is_ts, is_closed}
 use Rattle.css_companion.specs.Steps.{window}
-use Rattle.css_schedule.specs.declared.header.Header.{Header}
-use Rattle.css_schedule.specs.declared.line.Verb.{Verb}
 use Rattle.css_schedule.specs.declared.line.Verb.TheVariants as verb
 use Rattle.css_schedule.specs.declared.header.CompanionLine.{CompanionLine}
-use Rattle.css_schedule.specs.Ranges.{IsVerb, IsCompanion, IsCount}
 use Rattle.css_meaning.specs.Sessions.{addresses, peer_of, setup_of, is_open, was_opened, written_to, received_from}
 use Rattle.css_meaning.specs.Sessions.{next_down, next_up}
 use Rattle.css_meaning.specs.Happened.{hearing, done_by}
 use Rattle.css_meaning.specs.Verdicts.{can_talk, IsDeclared}
+use Rattle.css_meaning.proofs.Names.{and_parts, not-true, Message, History, Dialled, Wrote, presentation_text}
+use Rattle.css_meaning.proofs.Names.{IsPresentation, Presentation, Setup, setup_reads, Kind, calls_of, TvEvent, Header}
+use Rattle.css_meaning.proofs.Names.{Verb, IsVerb, IsCompanion, IsCount}
 use Rattle.css_meaning.proofs.Peers.{cii_of, ts_of, cii-ts, ts-cii}
 use Rattle.css_meaning.proofs.Entries.{dialled-kind, dialled-kind_apart, dialled-open_apart, closed-open_apart}
 use Rattle.css_meaning.proofs.Entries.{dialled-open, closed-open, wrote-one, received-one, received_not, concerns}
@@ -39,9 +30,9 @@ use Rattle.css_meaning.proofs.Staging.{AreBelow, IsSound, IsStaging}
 use Rattle.css_meaning.proofs.Staged.{IsKeptBy, IsKeptApart, one_staged}
 use Rattle.css_meaning.proofs.Lives.{LifeGoesOn, goes_on, shown_after, lived_after, opens_as, closes_as}
 use Rattle.css_meaning.proofs.Talking.{lived_as, published_addresses, HasCii, IsCiiOpened, HasCiiOf, HasTs, HasTsOf}
-use Rattle.css_meaning.proofs.Talking.{IsOpened, Exchanged, exchanged, AreWritten, written_at}
-use Rattle.css_meaning.proofs.Talking.{later_written, Shows, shows_over, HasTalked, cii_goes, cii_ends, cii_apart}
-use Rattle.css_meaning.proofs.Talking.{ts_goes, ts_live, ts_never, ts_becomes, shows_goes, text_comes}
+use Rattle.css_meaning.proofs.Talking.{IsOpened, Exchanged, exchanged, AreWritten, written_at, later_written, Shows}
+use Rattle.css_meaning.proofs.Talking.{shows_over, HasTalked, cii_goes, cii_ends, cii_apart, ts_goes, ts_live, ts_never}
+use Rattle.css_meaning.proofs.Talking.{ts_becomes, shows_goes, text_comes}
 
 -- no peer above those of 16 companions is known
 abbrev AreFew : List TvEvent → Type 0
@@ -96,8 +87,7 @@ module _ (header : Header) (who : ℕ) (first : 1 ≤ who) (events : List TvEven
       }
 
   -- the session of CSS-CII opens
-  cii_opens : AreFew events → was_opened cii own ≡ false
-      → let new = event.Opened cii kind.Cii ∷ events in
+  cii_opens : AreFew events → was_opened cii own ≡ false → let new = event.Opened cii kind.Cii ∷ events in
       let after = Dialled session.Cii cii ∷ own in IsStaging who new after → HasTalked header who new after
   cii_opens few never staging =
       let e = event.Opened cii kind.Cii in
@@ -123,15 +113,12 @@ module _ (header : Header) (who : ℕ) (first : 1 ≤ who) (events : List TvEven
     where
       -- where the other session is as before, so is what is known of it
       ts_as_before : (new : List TvEvent) (after : History) → kind_of ts after ≡ kind_of ts own
-          → is_open ts after ≡ is_open ts own
-          → HasTsOf header who new own (exchanged who events own)
+          → is_open ts after ≡ is_open ts own → HasTsOf header who new own (exchanged who events own)
           → HasTs setup (kind_of ts after) (is_open ts after) (lived_after ts new) (exchanged who events own)
-      ts_as_before new after kind live is =
-          rw kind (rw live is)
+      ts_as_before new after kind live is = rw kind (rw live is)
 
   -- it closes
-  cii_closes : is_open cii own ≡ true
-      → let new = event.Closed cii ∷ events in
+  cii_closes : is_open cii own ≡ true → let new = event.Closed cii ∷ events in
       let after = Closed cii ∷ own in IsStaging who new after → HasTalked header who new after
   cii_closes live staging =
       let e = event.Closed cii in
@@ -180,16 +167,12 @@ module _ (header : Header) (who : ℕ) (first : 1 ≤ who) (events : List TvEven
             (λ b. HasCii (kind_of cii own) b (lived_after cii new)) (sym
             (dialled-open_apart cii ts other session.Ts own)) (cii_on e one));
         ts = rw (dialled-kind ts session.Ts own) (rw (dialled-open ts session.Ts own) opened);
-        written = rw writes (
-          rw was.written (setup_reads setup utf8),
-          before.written,
-        );
+        written = rw writes (rw was.written (setup_reads setup utf8), before.written);
         shows = rw opens.life (λ live. tt);
       }
 
   -- it closes
-  ts_closes : is_open ts own ≡ true
-      → let new = event.Closed ts ∷ events in
+  ts_closes : is_open ts own ≡ true → let new = event.Closed ts ∷ events in
       let after = Closed ts ∷ own in IsStaging who new after → HasTalked header who new after
   ts_closes live staging =
       let e = event.Closed ts in
@@ -276,8 +259,7 @@ module _ (header : Header) (who : ℕ) (first : 1 ≤ who) (events : List TvEven
   -- ---- verbs
   -- the same of both sessions: one opens
   opens_talked : (k : Kind) (made : List Message) → AreFew events → IsUtf8Setup setup
-      → was_opened (peer_of who k) own ≡ false
-      → IsStaging who (events_with who events own (verb.Opening k))
+      → was_opened (peer_of who k) own ≡ false → IsStaging who (events_with who events own (verb.Opening k))
       (done_by header who made events (verb.Opening k) own)
       → HasTalked header who (events_with who events own (verb.Opening k))
       (done_by header who made events (verb.Opening k) own)

@@ -1,28 +1,19 @@
 -- The two sessions of a companion, as both ends know them after accepted lines.
-use Rattle.std.proofs.Common.{◌≡◌, ℕ, zero, suc, ◌<◌, ◌⊎◌, inl, inr, refl, ap, sym, subst, ◌∙◌, arith}
-use Rattle.std.proofs.Common.{Bool, true, false, cond, not, ◌==◌, List, [], ◌∷◌, length, eqb-true}
+use Rattle.std.proofs.Common.{◌≡◌, ℕ, zero, suc, ◌<◌, ◌⊎◌, inl, inr, refl, ap, sym, subst, ◌∙◌, arith, Bool, true}
+use Rattle.std.proofs.Common.{false, cond, not, ◌==◌, List, [], ◌∷◌, length, eqb-true}
 use Rattle.std.specs.Prelude.{⊤, Option, Some, None, is_some, option_map, Ok}
-use Rattle.std.specs.List.{AllByRecursion}
 use Rattle.css_model.specs.declared.Kind.{Kind as Dialling}
 use Rattle.css_model.specs.declared.Kind.TheVariants as session
-use Rattle.css_model.specs.History.{History}
-use Rattle.css_player.specs.Player.{Player}
-use Rattle.css_cii.specs.declared.state.State.{State}
-use Rattle.css_tsmsg.specs.Presentations.{presentation_of, presentation_text, IsPresentation}
 use Rattle.css_tsmsg.specs.Setups.{setup_of as setup_read}
-use Rattle.css_tsmsg.specs.declared.bound.Presentation.{Presentation}
-use Rattle.css_tsmsg.specs.declared.setup.Setup.{Setup}
-use Rattle.css_tsmsg.proofs.ReadBack.{presentation_reads}
 use Rattle.css_sessions.specs.Offsets.{control_for}
 use Rattle.css_sessions.specs.Told.{Life, CiiLife, Unset, TsLife, Lived, living, ended, latest}
 use Rattle.css_tv.specs.States.{published_state}
-use Rattle.css_tv.specs.Standing.{calls_of}
-use Rattle.css_tv.specs.declared.event.TvEvent.{TvEvent}
 use Rattle.css_tv.specs.declared.event.TvEvent.TheVariants as event
 use Rattle.css_companion.specs.Meanings.{kind_of, is_ts, is_closed}
-use Rattle.css_schedule.specs.declared.header.Header.{Header}
 use Rattle.css_meaning.specs.Numbering.{numbered}
 use Rattle.css_meaning.specs.Sessions.{addresses, setup_of, is_open, written_to, received_from}
+use Rattle.css_meaning.proofs.Names.{AllByRecursion, History, Player, State, presentation_of, presentation_text}
+use Rattle.css_meaning.proofs.Names.{IsPresentation, Presentation, Setup, presentation_reads, calls_of, TvEvent, Header}
 use Rattle.css_meaning.proofs.Peers.{cii_of, ts_of}
 use Rattle.css_meaning.proofs.Staging.{IsStaged, IsStaging}
 use Rattle.css_meaning.proofs.Lives.{grown_by, GoesOn, LifeGoesOn, shown_after, lived_after, sets_up, presents}
@@ -78,8 +69,7 @@ HasCii (Some _) live lived = ⊥
 cii_grown : (old new : Option Lived) (live : Bool) (q : Player) (is : IsCiiOpened old live)
     → let life = CiiLife is.first is.later in new ≡ lived_as (cond live (grown_by q life) life) live
     → IsCiiOpened new live
-cii_grown old new false q is now =
-    record { first = is.first; later = is.later; is = now; addressed = is.addressed }
+cii_grown old new false q is now = record { first = is.first; later = is.later; is = now; addressed = is.addressed }
 cii_grown old new true q is now = record {
   first = is.first;
   later = published_state addresses q ∷ is.later;
@@ -328,8 +318,7 @@ module _ (header : Header) (who : ℕ) (events : List TvEvent) (own : History)
       talked.cii
 
   -- an open session of CSS-TS has its life
-  pub ts_live : is_open (ts_of who) own ≡ true
-      → (kind_of (ts_of who) own ≡ Some session.Ts)
+  pub ts_live : is_open (ts_of who) own ≡ true → (kind_of (ts_of who) own ≡ Some session.Ts)
       × IsOpened (setup_of who header) (lived_after (ts_of who) events) (is_open (ts_of who) own)
       (exchanged who events own)
   ts_live live =

@@ -1,14 +1,10 @@
 -- What the texts of a television tell: each of a CSS-CII session its state, and each of a CSS-TS session its control.
-use Rattle.std.proofs.Common.{◌≡◌, ℕ, zero, suc, ◌+◌, ◌-◌, ◌<◌, ◌≤◌, refl, ap, sym, subst, subst₂, ◌∙◌, arith}
-use Rattle.std.proofs.Common.{Bool, true, false, cond, ◌==◌, List, [], ◌∷◌, ◌++◌, length, drop, reverse, eqb-true}
+use Rattle.std.proofs.Common.{◌≡◌, ℕ, zero, suc, ◌+◌, ◌-◌, ◌<◌, ◌≤◌, refl, ap, sym, subst, subst₂, ◌∙◌, arith, Bool}
+use Rattle.std.proofs.Common.{true, false, cond, ◌==◌, List, [], ◌∷◌, ◌++◌, length, drop, reverse, eqb-true}
 use Rattle.std.proofs.Common.{length-append}
 use Rattle.std.specs.Prelude.{⊤, Option, Some, None, IfSome, map, bytes_eq, Ok}
-use Rattle.std.specs.List.{AllByRecursion}
 use Rattle.std.proofs.Math.Seq.{drop-append-add}
-use Rattle.std.proofs.lemmas.List.{reverse-append, take_all}
 use Rattle.std.proofs.lemmas.Slice.Eq.{bytes_eq-Decides}
-use Rattle.css_num.specs.declared.control.Control.{Control}
-use Rattle.css_player.specs.Player.{Player}
 use Rattle.css_cii.specs.Messages.{message_of}
 use Rattle.css_cii.specs.States.{empty, difference, is_empty, Tells, TellsChange, IsSession, IsSessionFrom, last_from}
 use Rattle.css_cii.specs.declared.change.Change.{Change}
@@ -16,9 +12,7 @@ use Rattle.css_cii.specs.declared.change.Told.{Told}
 use Rattle.css_cii.specs.declared.change.Told.TheVariants.{Unsaid, Said}
 use Rattle.css_cii.specs.declared.name.CiiName.{CiiName}
 use Rattle.css_cii.specs.declared.name.CiiName.TheVariants.{WcUrl, TsUrl}
-use Rattle.css_cii.specs.declared.state.State.{State}
 use Rattle.css_tsmsg.specs.Controls.{control_of}
-use Rattle.css_tsmsg.specs.declared.setup.Setup.{Setup}
 use Rattle.css_sessions.specs.ReadBack.{cii_states, cii_changes, ts_controls, ReadsAsStates, ReadsAsControls}
 use Rattle.css_sessions.specs.Told.{cii_texts, ts_texts, latest as latest_of}
 use Rattle.css_companion.specs.Contents.{moved, move_of}
@@ -26,6 +20,7 @@ use Rattle.css_companion.specs.Published.{latest, TellsState}
 use Rattle.css_companion.specs.declared.fault.CompanionFault.TheVariants as fault
 use Rattle.css_meaning.specs.Numbering.{numbered}
 use Rattle.css_meaning.specs.Sessions.{addresses}
+use Rattle.css_meaning.proofs.Names.{AllByRecursion, reverse-append, take_all, Control, Player, State, Setup}
 use Rattle.css_meaning.proofs.Talking.{HasAddresses}
 
 -- ---- lists beside each other

@@ -2,30 +2,18 @@
 use Rattle.std.proofs.Common.{◌≡◌, ℕ, suc, ◌<◌, ◌≤◌, ◌⊎◌, inl, inr, arith, ap, sym, subst, ◌∙◌, refl, Bool, true, false}
 use Rattle.std.proofs.Common.{cond, ◌==◌, List, [], ◌∷◌, ◌++◌, length, All, Option, Some, None, is_some, Result}
 use Rattle.std.proofs.Common.{eqb-true, option_map, option_and_then, option_to_list}
-use Rattle.std.specs.Result.{result_ok}
-use Rattle.std.proofs.lemmas.Bool.Decides.{eqb_tells}
-use Rattle.css_model.specs.declared.TheConstants.{LIMIT}
 use Rattle.css_model.specs.declared.Stamp.{Stamp}
-use Rattle.css_model.specs.declared.Message.{Message}
-use Rattle.css_model.specs.declared.WcFault.{WcFault}
-use Rattle.css_model.specs.Numbers.{IsWithin, precision_ns}
-use Rattle.css_model.specs.World.{World}
 use Rattle.css_model.specs.Wire.{encoded, request_at, stamp_of}
-use Rattle.css_model.specs.History.{Entry, History, Sent, request_by}
 use Rattle.css_model.specs.Explains.{IsJustAsked, WasAsked}
-use Rattle.css_model.proofs.Lately.{IsIn}
-use Rattle.css_server.specs.Tickets.{Ticket}
 use Rattle.css_server.specs.Exchanges.{ArePromised, PromisesRise}
-use Rattle.css_schedule.specs.declared.header.Header.{Header}
-use Rattle.css_schedule.specs.declared.line.Verb.{Verb}
-use Rattle.css_schedule.specs.declared.line.Verb.TheVariants.{Ask, Take}
-use Rattle.css_schedule.specs.Ranges.{IsVerb}
 use Rattle.css_meaning.specs.Happened.{Numbered, asked_by, requests, askers, ticket_at, ticket_by, asker_by, tickets}
 use Rattle.css_meaning.specs.Happened.{taken_for, datagrams, events_of, history_of, peer}
 use Rattle.css_meaning.specs.Numbering.{numbered}
 use Rattle.css_meaning.specs.Verdicts.{tv_reading}
 use Rattle.css_meaning.specs.Accepted.{AreAccepted}
 use Rattle.css_meaning.specs.Worlds.{moment}
+use Rattle.css_meaning.proofs.Names.{result_ok, eqb_tells, LIMIT, Message, WcFault, IsWithin, precision_ns, World}
+use Rattle.css_meaning.proofs.Names.{Entry, History, Sent, request_by, IsIn, Ticket, Header, Verb, Ask, Take, IsVerb}
 use Rattle.css_meaning.proofs.Worlds.{all-head, all-tail, tested_ok}
 use Rattle.css_meaning.proofs.Ends.{history_now, history_other}
 use Rattle.css_meaning.proofs.Lawful.{done_at, once_by, request_back}
@@ -68,8 +56,7 @@ numbered-newest number item older a is e =
 -- each other item is an older one
 numbered-older : {A : Type 0} (number : ℕ) (item : A) (older : List A) (a : A)
     → (number == suc (length older)) ≡ false → numbered number (item ∷ older) ≡ Some a → numbered number older ≡ Some a
-numbered-older number item older a is e =
-    sym (ap (λ b. cond b (Some item) (numbered number older)) is) ∙ e
+numbered-older number item older a is e = sym (ap (λ b. cond b (Some item) (numbered number older)) is) ∙ e
 
 -- ---- the companions of requests and of takes
 -- each request has its companion
@@ -131,12 +118,7 @@ sent-now : (header : Header) (who : ℕ) (older : List Numbered) (reading : ℕ)
 sent-now header who older reading range =
     inl (
       request_by-sent reading range,
-      record {
-        reading = reading;
-        before = history_of who header older;
-        just_before = refl;
-        same = refl;
-      },
+      record { reading = reading; before = history_of who header older; just_before = refl; same = refl },
       refl,
     )
 
@@ -228,8 +210,7 @@ taken-longer world moment_of header who now older ticket taken = record {
 
 -- a ticket for this request was taken at the moment of the newest line
 taken-now : (world : World) (moment_of : ℕ → ℕ) (header : Header) (who : ℕ) (now : Numbered) (older : List Numbered)
-    (ticket : Ticket) (reading asked : ℕ)
-    → reading < LIMIT → world (length older) ≡ moment older now
+    (ticket : Ticket) (reading asked : ℕ) → reading < LIMIT → world (length older) ≡ moment older now
     → IsWithin (precision_ns header.tv_precision) reading now.line.w
     → IsSent moment_of header who older asked → ticket_at header (tickets header older) reading asked ≡ ticket
     → IsTaken world moment_of header who (now ∷ older) ticket
@@ -322,8 +303,7 @@ are_promised header (now ∷ older) =
 
 -- two promises of equal readings have one number
 pub one_promise : (items : List Ticket) (i j : ℕ) (a b : Ticket) → PromisesRise items → numbered i items ≡ Some a
-    → numbered j items ≡ Some b
-    → a.follow_up ≡ true → b.follow_up ≡ true → a.reading ≡ b.reading → i ≡ j
+    → numbered j items ≡ Some b → a.follow_up ≡ true → b.follow_up ≡ true → a.reading ≡ b.reading → i ≡ j
 one_promise [] i j a b rise p q f g e = absurd (cc)
 one_promise (ticket ∷ older) i j a b rise p q f g e =
     by (i == suc (length older)) (j == suc (length older)) refl refl p q

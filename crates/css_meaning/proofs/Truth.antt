@@ -2,22 +2,13 @@
 use Rattle.std.proofs.Common.{◌≡◌, ℕ, suc, ◌≤◌, ◌⊎◌, inl, inr, arith, ap, sym, subst, ◌∙◌, refl, Bool, true, false}
 use Rattle.std.proofs.Common.{cond, not, ◌==◌, List, ◌∷◌, length, eqb-true, Option, Some, None, IfSome, IsTrue, Result}
 use Rattle.std.proofs.Common.{Ok, ◌&&◌, pos, int_lt, option_map}
-use Rattle.std.proofs.lemmas.Bool.{and_parts}
-use Rattle.css_schedule.specs.Owners.{is_own}
 use Rattle.css_num.specs.Spans.{Covers}
 use Rattle.css_model.specs.declared.Stamp.{Stamp}
-use Rattle.css_model.specs.declared.Message.{Message}
-use Rattle.css_model.specs.declared.WcFault.{WcFault}
 use Rattle.css_model.specs.declared.Why.TheVariants as why
-use Rattle.css_model.specs.Numbers.{IsWithin, precision_ns}
-use Rattle.css_model.specs.World.{World, IsWorldFor}
 use Rattle.css_model.specs.Wire.{decoded, stamp_of, reading_of, is_same_stamp}
 use Rattle.css_model.specs.WallClock.{Local, Answer, scaled_width}
 use Rattle.css_model.specs.Truth.{Contains}
-use Rattle.css_model.specs.History.{Entry, LandedAnswer, landed_answer, landed_answers, is_promise_of, accepted_answers}
-use Rattle.css_model.specs.History.{History, Clock, Took, Each, answer_in, is_asked, is_possible, times_of, wall_answer}
 use Rattle.css_model.specs.Explains.{WasAsked, IsTruthful, TruthfulAt, Explains, IsAccepted, AcceptsAt, ContainsAt}
-use Rattle.css_model.proofs.Lately.{IsIn, is_same_stamp-true}
 use Rattle.css_model.proofs.Requests.{reading_of-stamp_of}
 use Rattle.css_model.proofs.Wall.{wall_is_true, truth_is_accepted}
 use Rattle.css_server.specs.Exchanges.{greatest_reading, PromisesRise}
@@ -26,15 +17,16 @@ use Rattle.css_client.specs.Landings.{landing_of_decoded, landing_of_message, ve
 use Rattle.css_client.specs.declared.landing.Landing.{Landing}
 use Rattle.css_client.specs.declared.landing.Landing.TheVariants as landings
 use Rattle.css_span.specs.WallSpans.{span_of, wall_span}
-use Rattle.css_schedule.specs.declared.header.Header.{Header}
-use Rattle.css_schedule.specs.declared.line.Verb.{Verb}
-use Rattle.css_schedule.specs.declared.line.Verb.TheVariants.{Ask, Land, Wall}
 use Rattle.css_meaning.specs.Happened.{Numbered, tickets, datagrams, bytes_of, history_of, peer}
 use Rattle.css_meaning.specs.Numbering.{numbered}
 use Rattle.css_meaning.specs.Worlds.{world_of, moment_number, errors_of}
 use Rattle.css_meaning.specs.Verdicts.{local_of, IsDeclared, can_exchange}
 use Rattle.css_meaning.specs.Accepted.{AreAccepted}
 use Rattle.css_meaning.specs.Truth.{IsTrueWall, IsPossibleLanding, AcceptedLinesAreTrue, AcceptedLinesAreWorld}
+use Rattle.css_meaning.proofs.Names.{and_parts, is_own, Message, WcFault, IsWithin, precision_ns, World, IsWorldFor}
+use Rattle.css_meaning.proofs.Names.{Entry, LandedAnswer, landed_answer, landed_answers, is_promise_of}
+use Rattle.css_meaning.proofs.Names.{accepted_answers, History, Clock, Took, Each, answer_in, is_asked, is_possible}
+use Rattle.css_meaning.proofs.Names.{times_of, wall_answer, IsIn, is_same_stamp-true, Header, Verb, Ask, Land, Wall}
 use Rattle.css_meaning.proofs.Accepting.{keeps_errors}
 use Rattle.css_meaning.proofs.Lawful.{done_at, IsTalk, Adds, each_line, is_lawful}
 use Rattle.css_meaning.proofs.Ends.{history_now, can_exchange_now}
@@ -232,15 +224,13 @@ accepted_lines_are_world header lines declared accepted who is = record {
 
 -- ---- the wall clock
 -- an answer whose span contains the wall clock
-covers : (own : Local) (reading wall : ℕ) (answer : Option Answer)
-    → IfSome answer (λ a. Contains own a reading wall)
+covers : (own : Local) (reading wall : ℕ) (answer : Option Answer) → IfSome answer (λ a. Contains own a reading wall)
     → IfSome (option_map (span_of own reading) answer) (λ span. Covers span (pos wall))
 covers own reading wall None contains = tt
 covers own reading wall (Some answer) contains = record { low = contains.low; high = contains.high }
 
 -- the history with the reading of a `wall` line
-wall-history : (header : Header) (now : Numbered) (older : List Numbered) (reading : ℕ)
-    → now.line.verb ≡ Wall reading
+wall-history : (header : Header) (now : Numbered) (older : List Numbered) (reading : ℕ) → now.line.verb ≡ Wall reading
     → history_of now.line.who header (now ∷ older) ≡ Clock why.Turn reading ∷ history_of now.line.who header older
 wall-history header now older reading is =
     history_now header now older now.line.who refl ∙ ap (λ (v : Verb). done_at header older now.line.who v) is
@@ -299,8 +289,7 @@ TakenIn own h world tv_error moment_of bytes reading landed =
 
 -- a truthful answer is accepted, or its request left the last 64
 lands_well : (own : Local) (h : History) (world : World) (tv_error : ℕ) (moment_of : ℕ → ℕ) (bytes : List ℕ)
-    (message : Message) (reading : ℕ)
-    → (message.message_type == 0) ≡ false → answer_in bytes ≡ Some message
+    (message : Message) (reading : ℕ) → (message.message_type == 0) ≡ false → answer_in bytes ≡ Some message
     → IsTruthful world tv_error moment_of (record { message = message; reading = reading }) (Took peer bytes ∷ h)
     → AcceptsAt world tv_error own moment_of (Clock why.Land reading) (Took peer bytes ∷ h)
     → LandsWell (landing_of_message own h reading message)

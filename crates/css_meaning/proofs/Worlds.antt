@@ -2,19 +2,16 @@
 use Rattle.std.proofs.Common.{◌≡◌, ◌≢◌, ℕ, zero, suc, ◌<◌, ◌≤◌, arith, ap, sym, subst, ◌∙◌, refl, Bool, inl, inr, true}
 use Rattle.std.proofs.Common.{false, cond, not, ◌==◌, ltb, List, [], ◌∷◌, map, length, ne_eqb, ◌&&◌, All, Some, None}
 use Rattle.std.proofs.Common.{Result, Ok, Err, filter, lt-ltb, le-ltb, ltb-true, ltb-false, eqb-true, eq-eqb}
-use Rattle.std.specs.Result.{result_and, result_map_both}
-use Rattle.std.proofs.lemmas.Bool.Decides.{eqb_tells}
-use Rattle.css_model.specs.World.{Moment, OwnClock, RunsWithin}
 use Rattle.css_moments.specs.Drifts as drifts
 use Rattle.css_moments.specs.Drifts.{Shown, Told, EachPair}
-use Rattle.css_schedule.specs.Owners.{is_sleep}
-use Rattle.css_schedule.specs.declared.header.Header.{Header}
 use Rattle.css_meaning.specs.Happened.{Numbered}
 use Rattle.css_meaning.specs.Worlds.{world_of, sleeps_of, moment}
 use Rattle.css_meaning.specs.Clocks.{Seen, shown_at, told_with, told_by, broken_by, clock_verdict}
 use Rattle.css_meaning.specs.Verdicts.{tv_seen, own_seen, seen_of_tv, seen_of, local_of, tested, own_shown_tested}
 use Rattle.css_meaning.specs.Verdicts.{shown_tested, reading_tested, carried_out, line_meant}
 use Rattle.css_meaning.specs.declared.fault.WorldFault.{WorldFault}
+use Rattle.css_meaning.proofs.Names.{result_and, result_map_both, eqb_tells, Moment, OwnClock, RunsWithin, is_sleep}
+use Rattle.css_meaning.proofs.Names.{Header}
 
 -- ---- lists
 pub all-head : {A : Type 0} (P : A → Type 0) (x : A) (xs : List A) → All P (x ∷ xs) → P x
@@ -146,8 +143,7 @@ sleeps_woke now older who is sleep =
 -- at a line that is no sleep as often as before
 pub sleeps_awake : (now : Numbered) (older : List Numbered) (who : ℕ) → is_sleep now.line.verb ≡ false
     → sleeps_of who (now ∷ older) ≡ sleeps_of who older
-sleeps_awake now older who awake =
-    sleeps-now now older who false (ap (λ b. b && (now.line.who == who)) awake)
+sleeps_awake now older who awake = sleeps-now now older who false (ap (λ b. b && (now.line.who == who)) awake)
 
 -- and at one of another companion
 pub sleeps_other : (now : Numbered) (older : List Numbered) (who : ℕ) → now.line.who ≢ who
@@ -411,5 +407,4 @@ tv_two error (now ∷ older) i j pairs le =
     -- the same of equal moments
     both : {m m' n n' : Moment} → m ≡ m' → n ≡ n' → (m.time ≤ n.time) × RunsWithin error m.time m.wall n.time n.wall
         → (m'.time ≤ n'.time) × RunsWithin error m'.time m'.wall n'.time n'.wall
-    both {m} {m'} {n} {n'} p q is =
-        rw p at (rw q at is)
+    both {m} {m'} {n} {n'} p q is = rw p at (rw q at is)

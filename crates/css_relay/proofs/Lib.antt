@@ -1,4 +1,3 @@
-pub mod Originates
 pub mod HostTexts
 pub mod Exponents
 pub mod Readings

@@ -1,21 +1,13 @@
 -- Each generated line is accepted after those before it, with one companion and with several.
 use Rattle.std.proofs.Common.{◌≡◌, ℕ, suc, zero, ◌+◌, ◌-◌, ◌*◌, ◌<◌, ◌≤◌, ◌==◌, arith, sym, subst, refl, Bool, true}
 use Rattle.std.proofs.Common.{false, option_map, eqb-true, slice_get, unwrap_or, replicate}
-use Rattle.std.proofs.lemmas.Bool.{eqb-false}
 use Rattle.std.proofs.lemmas.Int.{ints}
-use Rattle.std.proofs.lemmas.List.{length-replicate}
-use Rattle.std.proofs.lemmas.List.Elements.{All-replicate}
-use Rattle.css_model.specs.WallClock.{IsLocal}
-use Rattle.css_schedule.specs.Ranges.{IsCompanion, IsCount}
-use Rattle.css_schedule.specs.declared.header.Header.{Header}
-use Rattle.css_meaning.specs.Verdicts.{IsDeclared}
 use Rattle.css_meaning.specs.Accepted.{AreAccepted}
 use Rattle.css_gen.specs.Course.{started, course_after}
 use Rattle.css_gen.specs.Crowd.{gathered, crowd_after}
-use Rattle.css_gen.specs.Opening.{companion}
-use Rattle.css_gen.specs.Standing.{AreSome}
-use Rattle.css_gen.proofs.Ranges.{pts-utf8, stem-utf8}
 use Rattle.css_survey.specs.Generated.{header_for, generated, GeneratedLinesAreAccepted}
+use Rattle.css_survey.proofs.Names.{eqb-false, length-replicate, All-replicate, IsLocal, IsCompanion, IsCount, Header}
+use Rattle.css_survey.proofs.Names.{IsDeclared, companion, AreSome, pts-utf8, stem-utf8}
 use Rattle.css_survey.proofs.Accepting.{all-hold}
 use Rattle.css_survey.proofs.Generating.{one_state, one_drawn, crowd_state, crowd_drawn}
 use Rattle.css_survey.proofs.Opening.{opening-holds}
@@ -73,8 +65,7 @@ lines-accepted : (seed companions count : ℕ) → AreSome companions → count 
     → AreAccepted (header_for companions) (generated seed companions count)
 lines-accepted seed companions count some few = by (companions == 1) refl
   where
-    by : (b : Bool) → (companions == 1) ≡ b
-        → AreAccepted (header_for companions) (generated seed companions count)
+    by : (b : Bool) → (companions == 1) ≡ b → AreAccepted (header_for companions) (generated seed companions count)
     by true e =
         subst (λ (n : ℕ). AreAccepted (header_for n) (generated seed n count)) (sym (eqb-true companions 1 e))
         (front-accepted (header_for 1) seed 1 8 count (one-accepted seed count (omega (arith, few))))

@@ -1,23 +1,14 @@
 -- Each drawn line is accepted after those before it.
 use Rattle.std.proofs.Common.{◌≡◌, ℕ, suc, zero, ◌+◌, ◌<◌, ◌≤◌, arith, ap, sym, subst, ◌∙◌, refl, Bool, true, false}
 use Rattle.std.proofs.Common.{List, ◌∷◌, None, IfSome, Result, Ok, length}
-use Rattle.std.specs.Result.{result_and}
-use Rattle.std.proofs.lemmas.List.{length-replicate}
-use Rattle.css_schedule.specs.Owners.{is_own}
-use Rattle.css_schedule.specs.Ranges.{IsLine, IsSecond}
-use Rattle.css_schedule.specs.declared.line.Line.{Line}
-use Rattle.css_schedule.specs.declared.line.Verb.{Verb}
-use Rattle.css_schedule.specs.declared.line.Verb.TheVariants.{Ask, Take, Give, Land, Wall, Print, Sleep}
-use Rattle.css_meaning.specs.declared.fault.WorldFault.{WorldFault}
-use Rattle.css_meaning.specs.Happened.{Numbered}
-use Rattle.css_meaning.specs.Verdicts.{tv_reading, own_reading, shown_tested, reading_tested, tested, carried_out}
-use Rattle.css_meaning.specs.Verdicts.{line_meant}
 use Rattle.css_meaning.specs.Accepted.{AreAccepted, IsNext}
 use Rattle.css_gen.specs.Course.{clock}
 use Rattle.css_gen.specs.Crowd.{senders_after, askers_after}
-use Rattle.css_gen.specs.Opening.{companion}
-use Rattle.css_gen.proofs.Clocks.{clock-goes_on}
 use Rattle.css_survey.specs.Generated.{header_for, heading, line_for, numbered_for, generated}
+use Rattle.css_survey.proofs.Names.{result_and, length-replicate, is_own, IsLine, IsSecond, Line, Verb, Ask, Take, Give}
+use Rattle.css_survey.proofs.Names.{Land, Viewer, Wall, Print, WorldFault, Numbered, tv_reading, own_reading}
+use Rattle.css_survey.proofs.Names.{shown_tested, reading_tested, tested, carried_out, line_meant, companion}
+use Rattle.css_survey.proofs.Names.{clock-goes_on}
 use Rattle.css_survey.proofs.Watched.{both-ok}
 use Rattle.css_survey.proofs.Seen.{Oscillators, AllSeen, IsShown, shown-ok, reads-ok, all-seen}
 use Rattle.css_survey.proofs.Comes.{AreExchanged, Comes, given_after, done}
@@ -63,11 +54,8 @@ reads-tv : (senders askers : List ℕ) (given w who l : ℕ) (verb : Verb) → C
     → IfSome (tv_reading verb) (λ reading. reading ≡ w)
 reads-tv senders askers given w who l (Take n r) comes = comes.2
 reads-tv senders askers given w who l (Give n r) comes = comes.2
-reads-tv senders askers given w who l (Ask r) comes = tt
-reads-tv senders askers given w who l (Land n r) comes = tt
-reads-tv senders askers given w who l (Print r) comes = tt
-reads-tv senders askers given w who l Sleep comes = tt
-reads-tv senders askers given w who l _ comes = absurd comes
+reads-tv senders askers given w who l (Viewer r command) comes = absurd comes
+reads-tv senders askers given w who l _ comes = tt
 
 reads-own : (senders askers : List ℕ) (given w who l : ℕ) (verb : Verb) → Comes senders askers given w who l verb
     → IfSome (own_reading verb) (λ reading. reading ≡ l)

@@ -2,18 +2,15 @@
 use Rattle.std.proofs.Common.{◌≡◌, ℕ, suc, ◌+◌, ◌-◌, ◌<◌, ◌≤◌, arith, ap, sym, subst, refl, Bool, true, false, List, []}
 use Rattle.std.proofs.Common.{◌∷◌, length}
 use Rattle.std.specs.Prelude.{Option, Some, None, IfSome, Ok, All, ◌==◌, ⊤, reverse, slice_index}
-use Rattle.std.proofs.lemmas.Bool.{eq-eqb, ne_eqb, eqb-false, lt-ltb}
-use Rattle.std.proofs.lemmas.List.Elements.{All-nil, All-cons, All-head, All-tail, All-weaker}
+use Rattle.std.proofs.lemmas.Bool.{eq-eqb, ne_eqb, lt-ltb}
 use Rattle.css_server.specs.Tickets.{Ticket, is_greater, greatest_with}
 use Rattle.css_server.specs.Exchanges.{greatest_reading}
-use Rattle.css_schedule.specs.declared.line.Verb.{Verb}
-use Rattle.css_schedule.specs.declared.line.Verb.TheVariants.{Ask, Take, Give, Land, Print, Sleep}
-use Rattle.css_meaning.specs.Numbering.{numbered}
 use Rattle.css_meaning.specs.Happened as happened
-use Rattle.css_meaning.specs.Happened.{Numbered, requests, tickets, taken_for, made_for, is_given}
-use Rattle.css_meaning.specs.Verdicts.{carried_out, printed_for}
 use Rattle.css_gen.specs.Crowd.{senders_after, askers_after}
 use Rattle.css_survey.specs.Generated.{header_for}
+use Rattle.css_survey.proofs.Names.{eqb-false, All-nil, All-cons, All-head, All-tail, All-weaker, Verb, Ask, Take, Give}
+use Rattle.css_survey.proofs.Names.{Land, Print, Sleep, numbered, Numbered, requests, tickets, taken_for, made_for}
+use Rattle.css_survey.proofs.Names.{is_given, carried_out, printed_for}
 use Rattle.css_survey.proofs.MadeOf.{made_of, made_of-more, numbered-reverse, reverse-more, length-more}
 
 -- an item of that number, of which this holds
@@ -78,8 +75,7 @@ pub record AreExchanged (companions : ℕ) (senders askers : List ℕ) (given sh
 -- What a line may say after these exchanges, where its clocks show `w` and `l`.
 abbrev pub Comes : (senders askers : List ℕ) → (given w who l : ℕ) → Verb → Type 0
 Comes senders askers given w who l (Ask reading) = reading ≡ l
-Comes senders askers given w who l (Take request reading) =
-    (1 ≤ request) × (request ≤ length senders) × (reading ≡ w)
+Comes senders askers given w who l (Take request reading) = (1 ≤ request) × (request ≤ length senders) × (reading ≡ w)
 Comes senders askers given w who l (Give take reading) = (take ≡ given + 1) × (given < length askers) × (reading ≡ w)
 Comes senders askers given w who l (Land datagram reading) =
     (numbered datagram (made_of askers given) ≡ Some who) × (reading ≡ l)
@@ -125,14 +121,12 @@ tickets-later shown shown' later taken h =
 
 -- a line, with its number
 abbrev pub saying : (number t w who l : ℕ) → Verb → Numbered
-saying number t w who l verb =
-    record { number = number; line = record { t = t; w = w; who = who; l = l; verb = verb } }
+saying number t w who l verb = record { number = number; line = record { t = t; w = w; who = who; l = l; verb = verb } }
 
 -- such a line leaves all as it was
 pub still : (companions : ℕ) (senders askers : List ℕ) (given shown : ℕ) (lines : List Numbered)
     → AreExchanged companions senders askers given shown lines → (number t w who l : ℕ) → shown ≤ w → (verb : Verb)
-    → is_idle verb ≡ true
-    → AreExchanged companions senders askers given w (saying number t w who l verb ∷ lines)
+    → is_idle verb ≡ true → AreExchanged companions senders askers given w (saying number t w who l verb ∷ lines)
 still companions senders askers given shown lines h number t w who l later (Ask reading) e = absurd (cc)
 still companions senders askers given shown lines h number t w who l later (Take request reading) e = absurd (cc)
 still companions senders askers given shown lines h number t w who l later (Give take reading) e = absurd (cc)
@@ -181,8 +175,7 @@ module _ (companions : ℕ) (senders askers : List ℕ) (given shown : ℕ) (lin
       let there = item-there {A = ℕ} (λ (n : ℕ). ⊤) request (requests lines) comes.0
       (omega (arith, h.requests, comes.1)) (all-any (requests lines)) in
       let new : Ticket = happened.ticket_at (header_for companions) taken reading there.item in
-      let is : tickets (header_for companions) (now (Take request reading) ∷ lines) ≡ new ∷ taken =
-      simp there.is in
+      let is : tickets (header_for companions) (now (Take request reading) ∷ lines) ≡ new ∷ taken = simp there.is in
       let this : IsTicket w new = record {
         before = omega (arith, comes.2);
         follows = greater-by reading (greatest_reading taken)

@@ -1,18 +1,14 @@
 -- Whatever is drawn, what a generated line says can happen.
 use Rattle.std.proofs.Common.{◌≡◌, ℕ, ◌-◌, ◌*◌, ◌≤◌, arith, refl, Bool, true, false, List, length}
 use Rattle.std.specs.Prelude.{All, ◌==◌, nat_lt, min, if◌then◌else◌, replicate}
-use Rattle.std.proofs.lemmas.Bool.{eqb-false, ltb-false}
-use Rattle.std.proofs.lemmas.Bool.Decides.{nat_tests}
-use Rattle.std.proofs.lemmas.List.{length-replicate, get_or-replicate, replicate_more}
-use Rattle.std.proofs.lemmas.List.Elements.{All-get_or}
 use Rattle.css_gen.specs.Draws.{draw}
 use Rattle.css_gen.specs.Course.{Happening, asked, taken, taken_back, given, given_next, landed, landed_back, printed}
 use Rattle.css_gen.specs.Course.{chosen, happening, tv_clock, own_clock}
-use Rattle.css_gen.specs.Crowd.{turn, datagrams, landed_from, landed_of, slept, chosen_of, happening_of}
-use Rattle.css_gen.specs.Crowd.{senders_after, askers_after}
-use Rattle.css_gen.specs.declared.course.Course.{Course}
-use Rattle.css_gen.specs.declared.crowd.Crowd.{Crowd}
+use Rattle.css_gen.specs.Crowd.{turn, datagrams, landed_from, landed_of, slept, chosen_of, happening_of, senders_after}
+use Rattle.css_gen.specs.Crowd.{askers_after}
 use Rattle.css_gen.proofs.Draws.{draw-below}
+use Rattle.css_survey.proofs.Names.{eqb-false, ltb-false, nat_tests, length-replicate, get_or-replicate, replicate_more}
+use Rattle.css_survey.proofs.Names.{All-get_or, Course, Crowd}
 use Rattle.css_survey.proofs.MadeOf.{IsFor, datagrams-for, all-for}
 use Rattle.css_survey.proofs.Comes.{Comes, given_after}
 
@@ -103,8 +99,7 @@ module _ (senders askers : List ℕ) (who : ℕ) (course : Course) (requests : l
   chosen-says choice lands =
       by (nat_lt choice 2) (choice == 2) (choice == 3) (nat_lt choice 6) refl refl refl
     where
-      by : (a b c d : Bool) → nat_lt choice 2 ≡ a → (choice == 2) ≡ b → (choice == 3) ≡ c
-          → Says
+      by : (a b c d : Bool) → nat_lt choice 2 ≡ a → (choice == 2) ≡ b → (choice == 3) ≡ c → Says
           (if a then asked course
           else if b then taken course
           else if c then given course
@@ -121,15 +116,13 @@ module _ (senders askers : List ℕ) (who : ℕ) (course : Course) (requests : l
   unfolding chosen_of
   chosen_of-says choice = by (nat_lt choice 4) (nat_lt choice 6) (nat_lt choice 8) refl
     where
-      by : (a b c : Bool) → nat_lt choice 4 ≡ a
-          → Says
+      by : (a b c : Bool) → nat_lt choice 4 ≡ a → Says
           (if a then chosen choice course
           else if b then landed_of (datagrams who askers course.answers) course
           else if c then printed course
           else slept course)
       by true b c e = chosen-says choice (λ high. absurd (grind (arith, nat_tests)))
-      by false true c e =
-          landed_of-says (datagrams who askers course.answers) (datagrams-for who askers course.answers)
+      by false true c e = landed_of-says (datagrams who askers course.answers) (datagrams-for who askers course.answers)
       by false false true e = refl
       by false false false e = tt
 

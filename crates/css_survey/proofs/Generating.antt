@@ -1,24 +1,18 @@
 -- Each generated line after the opening is drawn, with one companion and with several.
 use Rattle.std.proofs.Common.{◌≡◌, ℕ, suc, ◌+◌, ◌-◌, ◌*◌, ◌≤◌, arith, ap, subst, refl, Bool, true, false, cond, List}
 use Rattle.std.specs.Prelude.{nat_le, slice_index_or, ◌==◌}
-use Rattle.std.proofs.lemmas.Bool.{le-ltb, lt-leb, ne_eqb}
-use Rattle.css_schedule.specs.Owners.{is_own}
-use Rattle.css_schedule.specs.Ranges.{IsSecond}
-use Rattle.css_schedule.specs.declared.line.Verb.{Verb}
-use Rattle.css_schedule.specs.declared.line.Verb.TheVariants.{Ask, Take, Give, Land, Print, Sleep}
+use Rattle.std.proofs.lemmas.Bool.{le-ltb, ne_eqb}
 use Rattle.css_gen.specs.Bounds.{IsSmall}
 use Rattle.css_gen.specs.Course.{clock, later, next_line, next_course, course_after}
 use Rattle.css_gen.specs.Crowd.{turn, happening_of, next_line_of, next_crowd, crowd_after}
 use Rattle.css_gen.specs.Generated.{line_numbered}
 use Rattle.css_gen.specs.Second.{openings, second_line}
-use Rattle.css_gen.specs.Standing.{AreSome, IsReady}
-use Rattle.css_gen.specs.declared.course.Course.{Course}
-use Rattle.css_gen.specs.declared.crowd.Crowd.{Crowd}
 use Rattle.css_gen.proofs.Bounds.{course-small}
 use Rattle.css_gen.proofs.Crowds.{crowd-ready, crowd-companions}
 use Rattle.css_gen.proofs.CrowdRanges.{next-range_of, next-second, next-few}
-use Rattle.css_gen.proofs.Ranges.{next-range}
 use Rattle.css_survey.specs.Generated.{heading, line_for}
+use Rattle.css_survey.proofs.Names.{lt-leb, is_own, IsSecond, Verb, Ask, Take, Give, Land, Print, Sleep, AreSome}
+use Rattle.css_survey.proofs.Names.{IsReady, Course, Crowd, next-range}
 use Rattle.css_survey.proofs.Accepting.{State, IsDrawn}
 use Rattle.css_survey.proofs.Comes.{Comes}
 use Rattle.css_survey.proofs.Drawn.{ones, one-step, one-senders, one-askers, turn-step}
@@ -37,8 +31,7 @@ one_state course = record {
 
 -- each line is of the one companion
 pub of-one : (t w l : ℕ) (verb : Verb) → IsSecond 1 (record { t = t; w = w; who = 1; l = l; verb = verb })
-of-one t w l verb =
-    record { who = omega arith; own = λ own. omega arith; none = λ zero. absurd (omega (arith, zero)) }
+of-one t w l verb = record { who = omega arith; own = λ own. omega arith; none = λ zero. absurd (omega (arith, zero)) }
 
 one-drawn : (course : Course) → IsSmall course
     → IsDrawn 1 (one_state course) (next_line course) (one_state (next_course course))

@@ -1,3 +1,4 @@
+pub mod Names
 pub mod Giving
 pub mod Watched
 pub mod MadeOf

@@ -1,14 +1,12 @@
 -- Which companion each datagram is for: each answer makes two, for the companion whose request was taken.
 use Rattle.std.proofs.Common.{◌≡◌, ℕ, suc, zero, ◌+◌, ◌-◌, ◌*◌, ◌<◌, ◌≤◌, arith, ap, ◌∙◌, refl, Bool, true, false, List}
 use Rattle.std.proofs.Common.{[], ◌∷◌, ◌++◌, length, All, nat_lt, Some, ◌==◌, if◌then◌else◌, reverse, slice_index}
-use Rattle.std.proofs.lemmas.Bool.{eq-eqb, ne_eqb, eqb-true, eqb-false, ltb-true, ltb-false}
-use Rattle.std.proofs.lemmas.Bool.Decides.{nat_tests}
-use Rattle.std.proofs.lemmas.List.Elements.{All-nil, All-cons, All-weaker}
-use Rattle.std.proofs.lemmas.List.{length-append, length-reverse, reverse-append, reverse-reverse}
+use Rattle.std.proofs.lemmas.Bool.{eq-eqb, ne_eqb, eqb-true, ltb-true}
 use Rattle.std.proofs.Math.ListN.{get_or-append}
 use Rattle.std.proofs.Math.Seq.{get_or-append_seam}
-use Rattle.css_meaning.specs.Numbering.{numbered}
 use Rattle.css_gen.specs.Crowd.{datagrams}
+use Rattle.css_survey.proofs.Names.{eqb-false, ltb-false, nat_tests, All-nil, All-cons, All-weaker, length-append}
+use Rattle.css_survey.proofs.Names.{length-reverse, reverse-append, reverse-reverse, numbered}
 
 -- ---- items by number
 -- the number of an item is one more than its place where the oldest stands first

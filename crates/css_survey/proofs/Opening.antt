@@ -2,32 +2,21 @@
 use Rattle.std.proofs.Common.{◌≡◌, ◌≢◌, ℕ, suc, zero, ◌+◌, ◌-◌, ◌*◌, ◌/◌, ◌%◌, ◌<◌, ◌≤◌, arith, ap, sym, subst, ◌∙◌}
 use Rattle.std.proofs.Common.{refl, Bool, true, false, List, [], ◌∷◌, length, le-ltb, lt-ltb, le-leb, eqb-true, Option}
 use Rattle.std.proofs.Common.{Some, None, IfSome, unwrap_or, Result, Ok, codes, ◌==◌, nat_lt, if◌then◌else◌}
-use Rattle.std.specs.Result.{result_and}
-use Rattle.std.proofs.lemmas.List.{length-replicate}
-use Rattle.std.proofs.lemmas.List.Elements.{All-nil}
 use Rattle.css_num.specs.declared.protocol.Kind.TheVariants.{Cii, Ts}
 use Rattle.css_tsmsg.specs.Setups.{IsUtf8Setup, setup_text, setup_of as setup_read}
 use Rattle.css_tsmsg.proofs.ReadBack.{setup_reads}
-use Rattle.css_schedule.specs.Ranges.{IsLine, IsSecond}
-use Rattle.css_schedule.specs.declared.line.Line.{Line}
-use Rattle.css_schedule.specs.declared.line.Verb.{Verb}
-use Rattle.css_schedule.specs.declared.line.Verb.TheVariants.{Opening, Bring, Up}
-use Rattle.css_meaning.specs.declared.fault.WorldFault.{WorldFault}
-use Rattle.css_meaning.specs.Sessions.{setup_of}
-use Rattle.css_meaning.specs.Happened.{Numbered, events_of}
-use Rattle.css_meaning.specs.Verdicts.{tv_reading, own_reading, shown_tested, reading_tested, tested, carried_out}
-use Rattle.css_meaning.specs.Verdicts.{line_meant}
 use Rattle.css_meaning.specs.Accepted.{AreAccepted, IsNext}
 use Rattle.css_meaning.proofs.Ends.{history_other}
-use Rattle.css_gen.specs.Opening.{pts, companion, opening_verb, opening_line}
+use Rattle.css_gen.specs.Opening.{opening_verb}
 use Rattle.css_gen.specs.Second.{clock_line, line_placed, openings, second_line}
 use Rattle.css_gen.specs.Generated.{line_numbered}
-use Rattle.css_gen.specs.Standing.{AreSome}
-use Rattle.css_gen.proofs.Clocks.{clock-start}
 use Rattle.css_gen.proofs.Crowds.{crowd-companions}
-use Rattle.css_gen.proofs.Ranges.{pts-utf8, stem-utf8, opening-range}
 use Rattle.css_gen.proofs.CrowdRanges.{placed-range, placed-second}
 use Rattle.css_survey.specs.Generated.{header_for, heading, line_for, generated}
+use Rattle.css_survey.proofs.Names.{result_and, length-replicate, All-nil, IsLine, IsSecond, Line, Verb, Opening, Bring}
+use Rattle.css_survey.proofs.Names.{Up, WorldFault, setup_of, Numbered, events_of, tv_reading, own_reading}
+use Rattle.css_survey.proofs.Names.{shown_tested, reading_tested, tested, carried_out, line_meant, pts, companion}
+use Rattle.css_survey.proofs.Names.{opening_line, AreSome, clock-start, pts-utf8, stem-utf8, opening-range}
 use Rattle.css_survey.proofs.Accepting.{Holds}
 use Rattle.css_survey.proofs.Comes.{AreExchanged, IsTicket, is_idle, still}
 use Rattle.css_survey.proofs.Generating.{of-one}
@@ -93,8 +82,7 @@ clock-first companions who l number range second own = record {
   idle = verb-idle number;
 }
 
-placed-first : (companions place : ℕ) → 2 ≤ place → place ≤ 4 + 5 * companions
-    → IsFirst companions (line_placed place)
+placed-first : (companions place : ℕ) → 2 ≤ place → place ≤ 4 + 5 * companions → IsFirst companions (line_placed place)
 placed-first companions place low high =
     by (nat_lt place 5) (placed-range place) (placed-second companions place low high)
   where
@@ -103,8 +91,7 @@ placed-first companions place low high =
 
     by : (b : Bool) → IsLine (line b) → IsSecond companions (line b) → IsFirst companions (line b)
     by true range second = clock-first companions 0 0 place range second (λ some. absurd (omega (arith, some)))
-    by false range second =
-        clock-first companions (place / 5) 1000000000 (5 + place % 5) range second (λ some. refl)
+    by false range second = clock-first companions (place / 5) 1000000000 (5 + place % 5) range second (λ some. refl)
 
 first-is : (companions count : ℕ) → count < whole_of companions → IsFirst companions (first_line companions count)
 first-is companions count below = by (companions == 1) refl
@@ -245,8 +232,7 @@ record AreOpened (companions count : ℕ) (lines : List Numbered) : Type 0 where
 opened-more : (companions count who i : ℕ) (verb : Verb) (lines : List Numbered) → 1 ≤ who → who ≤ companions → i < 5
     → count + 2 ≡ 5 * who + i → opening_verb (5 + i) ≡ verb → tv_reading verb ≡ None
     → carried_out (header_for companions) lines (own_line companions count who verb) ≡ Ok []
-    → AreOpened companions count lines
-    → AreOpened companions (suc count) (own_line companions count who verb ∷ lines)
+    → AreOpened companions count lines → AreOpened companions (suc count) (own_line companions count who verb ∷ lines)
 unfolding opened_to
 opened-more companions count who i verb lines some few small place is unread carried before =
     let header = header_for companions in
@@ -413,8 +399,7 @@ opening-generated seed companions (suc count) few =
     )
 
 -- so a generator's lines begin
-pub opening-holds : (seed companions : ℕ) (tv_fast : Bool) (fast : Oscillators) → AreSome companions
-    → Holds companions
+pub opening-holds : (seed companions : ℕ) (tv_fast : Bool) (fast : Oscillators) → AreSome companions → Holds companions
     (record { tv_fast = tv_fast; fast = fast; time = 0; senders = []; askers = []; answers = 0 })
     (heading companions + suc (whole_of companions)) (generated seed companions (whole_of companions))
 opening-holds seed companions tv_fast fast some =

@@ -1,18 +1,14 @@
 -- The tests of all clocks pass on lines that show them.
 use Rattle.std.proofs.Common.{◌≡◌, ℕ, suc, zero, ◌+◌, ◌-◌, ◌<◌, ◌≤◌, arith, subst, refl, Bool, true, false, cond, List}
 use Rattle.std.proofs.Common.{◌∷◌, ◌==◌, eqb-true, Option, Some, None, IfSome, Result, Ok, replicate, slice_get}
-use Rattle.std.proofs.lemmas.Bool.{eqb-false}
 use Rattle.css_model.specs.Numbers.{precision_ns}
 use Rattle.css_moments.specs.Drifts.{Shown, last_shown}
-use Rattle.css_meaning.specs.declared.fault.WorldFault.{WorldFault}
 use Rattle.css_meaning.specs.Clocks.{Seen, told_by, clock_verdict, last_reading, has_woken, reading_verdict}
-use Rattle.css_meaning.specs.Happened.{Numbered}
-use Rattle.css_meaning.specs.Verdicts.{local_of, tv_seen, own_seen, seen_of_tv, seen_of, tv_reading, own_reading}
-use Rattle.css_meaning.specs.Verdicts.{own_shown_tested, shown_tested, reading_tested}
 use Rattle.css_meaning.proofs.Worlds.{seen_own, seen_other}
 use Rattle.css_gen.specs.Course.{clock}
-use Rattle.css_gen.specs.Opening.{companion}
 use Rattle.css_survey.specs.Generated.{header_for}
+use Rattle.css_survey.proofs.Names.{eqb-false, WorldFault, Numbered, local_of, tv_seen, own_seen, seen_of_tv, seen_of}
+use Rattle.css_survey.proofs.Names.{tv_reading, own_reading, own_shown_tested, shown_tested, reading_tested, companion}
 use Rattle.css_survey.proofs.Watched.{IsSeen, AreSeen, all-later, clock-ok, seen_next, reading-ok, both-ok}
 
 -- ---- the header

@@ -22,15 +22,11 @@ use Rattle.css_sessions.proofs.Talks.{talk_of-with_session}
 use Rattle.css_tv.specs.Standing.{Calls, calls_of}
 use Rattle.css_tv.specs.declared.event.TvEvent.{TvEvent}
 use Rattle.css_tv.specs.declared.event.TvEvent.TheVariants as event
-use Rattle.css_schedule.specs.declared.header.Header.{Header}
-use Rattle.css_schedule.specs.declared.line.Verb.{Verb}
-use Rattle.css_schedule.specs.declared.line.Verb.TheVariants.{Opening, Bring, Up}
-use Rattle.css_meaning.specs.Sessions.{addresses, setup_of, received_from, told_to, next_down, next_up}
-use Rattle.css_meaning.specs.Happened.{Numbered, events_of, history_of}
-use Rattle.css_meaning.specs.Verdicts.{can_talk, played, carried_out}
 use Rattle.css_survey.specs.Generated.{heading}
 use Rattle.css_meaning.proofs.Entries.{dialled-open, dialled-was_apart, heard-apart, wrote-one, received-apart}
 use Rattle.css_meaning.proofs.Peers.{cii_of, ts_of, cii-ts, others-peer}
+use Rattle.css_survey.proofs.Names.{Header, Verb, Opening, Bring, Up, addresses, setup_of, received_from, told_to}
+use Rattle.css_survey.proofs.Names.{next_down, next_up, Numbered, events_of, history_of, can_talk, played, carried_out}
 
 -- ---- the open sessions
 -- those after these events
@@ -151,8 +147,7 @@ own_3 companions count who lines =
     own_line companions (suc (suc count)) who (Opening kind.Ts) ∷ own_2 companions count who lines
 
 abbrev pub own_4 : (companions count who : ℕ) → List Numbered → List Numbered
-own_4 companions count who lines =
-    own_line companions (suc (suc (suc count))) who Up ∷ own_3 companions count who lines
+own_4 companions count who lines = own_line companions (suc (suc (suc count))) who Up ∷ own_3 companions count who lines
 
 abbrev pub own_5 : (companions count who : ℕ) → List Numbered → List Numbered
 own_5 companions count who lines =

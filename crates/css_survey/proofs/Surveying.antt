@@ -1,38 +1,27 @@
 -- A survey counts what is told at the lines of a schedule.
 use Rattle.std.proofs.Common.{◌≡◌, ℕ, suc, zero, ◌+◌, ◌-◌, ◌<◌, ◌≤◌, arith, ap, sym, subst, ◌∙◌, refl, List, [], ◌∷◌}
 use Rattle.std.proofs.Common.{◌++◌, length, option_to_list, eq-eqb, Option, Some, None, Result, Ok, Err, OnOk}
-use Rattle.std.proofs.lemmas.List.{append_assoc}
 use Rattle.css_model.specs.History.{History}
-use Rattle.css_model.specs.WallClock.{Local}
 use Rattle.css_companion.specs.Meanings.{report_after}
 use Rattle.css_companion.specs.Standing as companions
 use Rattle.css_companion.specs.Standing.{Companion, own_of}
 use Rattle.css_companion.specs.declared.report.Report.{Report}
 use Rattle.css_companion.specs.declared.report.Report.TheVariants as reports
-use Rattle.css_schedule.specs.Owners.{is_own}
-use Rattle.css_schedule.specs.Ranges.{IsHeader, IsCount}
-use Rattle.css_schedule.specs.declared.header.Header.{Header}
-use Rattle.css_schedule.specs.declared.line.Line.{Line}
-use Rattle.css_schedule.specs.declared.line.Verb.{Verb}
-use Rattle.css_schedule.specs.declared.line.Verb.TheVariants.{Print}
 use Rattle.css_tsmsg.specs.declared.setup.Setup.{Setup}
-use Rattle.css_meaning.specs.Happened.{Numbered, history_of}
 use Rattle.css_meaning.specs.Clocks.{last_reading, has_woken, least_next}
-use Rattle.css_meaning.specs.Sessions.{setup_of}
 use Rattle.css_meaning.specs.Accepted.{AreAccepted, IsNext}
 use Rattle.css_meaning.specs.Truth.{IsCompanionOf}
-use Rattle.css_meaning.specs.Verdicts.{local_of, seen_of, report_at}
 use Rattle.css_world.specs.Asked.{MayBeAsked}
 use Rattle.css_world.specs.Standing as worlds
 use Rattle.css_world.specs.Standing.{World}
-use Rattle.css_gen.specs.Standing.{AreSome}
-use Rattle.std.proofs.lemmas.Bool.Decides.{nat_tests}
 use Rattle.css_survey.specs.Generated.{header_for, heading, line_for, numbered_for, generated}
 use Rattle.css_survey.specs.declared.surveyor.Surveyor.{Surveyor}
 use Rattle.css_survey.specs.declared.summary.Summary.{Summary}
 use Rattle.css_survey.specs.Surveyed.{Told, asked_by, told_at, told_of, told_in, counted, counted_with, none_told}
 use Rattle.css_survey.specs.Surveyed.{summary_of}
 use Rattle.css_survey.specs.Surveys.{Stands, HasTaken}
+use Rattle.css_survey.proofs.Names.{append_assoc, Local, is_own, IsHeader, IsCount, Header, Line, Verb, Print, Numbered}
+use Rattle.css_survey.proofs.Names.{history_of, setup_of, local_of, seen_of, report_at, AreSome, nat_tests}
 use Rattle.css_survey.proofs.Accepted.{generated_accepted}
 
 -- ---- one report
@@ -104,8 +93,7 @@ few-more : (report : Report) (summary : Summary) (lines : ℕ) → AreFew summar
 few-more (reports.Ticks low high) summary lines few = record { prints = omega arith; intervals = omega arith }
 few-more (reports.None cause) summary lines few = record { prints = omega arith; intervals = omega arith }
 
-pub few_counted : (header : Header) (lines : List Numbered)
-    → AreFew (summary_of (told_of header lines)) (length lines)
+pub few_counted : (header : Header) (lines : List Numbered) → AreFew (summary_of (told_of header lines)) (length lines)
 few_counted header [] = record { prints = omega arith; intervals = omega arith }
 few_counted header (now ∷ older) = by (told_at header older now) (few_counted header older)
   where
@@ -150,8 +138,7 @@ generated-count seed companions (suc count) = ap suc (generated-count seed compa
 -- the next one is accepted
 next-accepted : (survey : Surveyor) (seed companions given : ℕ) (line : Line) → AreSome companions
     → heading companions ≤ given → given < 200000 → HasTaken survey seed companions given
-    → line ≡ line_for seed companions (given + 1)
-    → AreAccepted survey.world.header
+    → line ≡ line_for seed companions (given + 1) → AreAccepted survey.world.header
     (record { number = given + 1; line = line } ∷ generated seed companions (given - heading companions))
 next-accepted survey seed companions given line some within few has is =
     let first : 1 ≤ heading companions = grind (arith, nat_tests) in
@@ -187,10 +174,7 @@ has_taken (Err e) old new seed companions given line some within few has is same
 has_taken (Ok x) old new seed companions given line some within few has is same stands =
     let next = next-accepted old seed companions given line some within few has is in
     let taken = stands (generated seed companions (given - heading companions)) has.stands next.2 in
-    record {
-      header = same ∙ has.header;
-      stands = rw (one-generated seed companions given within) (rw is at taken);
-    }
+    record { header = same ∙ has.header; stands = rw (one-generated seed companions given within) (rw is at taken) }
 
 -- ---- the header
 -- the world of the header can be opened

@@ -1,17 +1,14 @@
 -- The tests of a clock pass on lines that show it as the generator does.
 use Rattle.std.proofs.Common.{◌≡◌, ℕ, ◌+◌, ◌<◌, ◌≤◌, arith, ap, sym, subst, ◌∙◌, refl, Bool, true, false, List, [], ◌∷◌}
 use Rattle.std.specs.Prelude.{Option, Some, None, IfSome, Result, Ok, All}
-use Rattle.std.specs.Result.{result_and, result_map_both}
-use Rattle.std.proofs.lemmas.Bool.Decides.{nat_tests}
-use Rattle.std.proofs.lemmas.List.Elements.{All-nil, All-cons, All-head, All-tail, All-weaker}
 use Rattle.css_moments.specs.Drifts.{Shown, Told, Keeps, verdict, last_shown, shown_lately, IsAccepted, IsNext}
 use Rattle.css_moments.proofs.Pairs.{accepts_exactly}
-use Rattle.css_meaning.specs.declared.fault.WorldFault.{WorldFault}
 use Rattle.css_meaning.specs.declared.reading.Reading.{Reading}
 use Rattle.css_meaning.specs.Clocks.{Seen, shown_at, told_with, told_by, broken_by, clock_verdict, last_reading}
 use Rattle.css_meaning.specs.Clocks.{near_verdict, order_verdict, reading_verdict}
 use Rattle.css_gen.specs.Course.{clock}
-use Rattle.css_gen.proofs.Clocks.{clock-keeps, clock-rises, clock-goes_on}
+use Rattle.css_survey.proofs.Names.{result_and, result_map_both, nat_tests, All-nil, All-cons, All-head, All-tail}
+use Rattle.css_survey.proofs.Names.{All-weaker, WorldFault, clock-keeps, clock-rises, clock-goes_on}
 
 -- What a line tells of a clock: it shows what this clock shows, at a true time no later than this one, and a reading is
 -- what it shows.
@@ -59,8 +56,7 @@ accepted-with false told accepted = accepted
 
 -- ---- clocks
 -- the clock keeps its error from each of them
-all-keep : (fast : Bool) (now : Seen) → IsSeen fast now.time now → (seen : List Seen)
-    → All (IsSeen fast now.time) seen
+all-keep : (fast : Bool) (now : Seen) → IsSeen fast now.time now → (seen : List Seen) → All (IsSeen fast now.time) seen
     → All (λ earlier. Keeps 12800 earlier (shown_at now)) (shown_lately (told_by seen))
 all-keep fast now h [] all = All-nil (λ earlier. Keeps 12800 earlier (shown_at now))
 all-keep fast now h (s ∷ seen) all =
@@ -97,8 +93,7 @@ clock-ok fast time number seen now h later this =
 
 -- and the line is seen with the others
 pub seen_next : (fast : Bool) (time number : ℕ) (seen : List Seen) (now : Seen) → AreSeen fast time number seen
-    → time ≤ now.time → now.number ≡ number → IsSeen fast now.time now
-    → AreSeen fast now.time (number + 1) (now ∷ seen)
+    → time ≤ now.time → now.number ≡ number → IsSeen fast now.time now → AreSeen fast now.time (number + 1) (now ∷ seen)
 seen_next fast time number seen now h later is this =
     let all = all-later fast time now.time later seen h.each in
     record {

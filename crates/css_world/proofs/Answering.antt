@@ -2,64 +2,32 @@
 use Rattle.std.proofs.Common.{◌≡◌, ◌≢◌, ℕ, ◌-◌, append_assoc, ◌<◌, ◌≤◌, arith, true, false, not, List, [], ◌∷◌, ◌++◌}
 use Rattle.std.proofs.Common.{length, refl, ap, sym, ◌∙◌, ◌⊎◌, inl, inr, eq-eqb, ne_eqb}
 use Rattle.std.specs.Prelude.{◌&&◌, map, unwrap_or, slice_set, Option, Some, None, is_some, option_to_list}
-use Rattle.std.specs.Option.{option_map, option_flatten}
+use Rattle.std.specs.Option.{option_map}
 use Rattle.css_model.specs.declared.Message.{Message}
 use Rattle.css_model.specs.declared.Why.TheVariants as why
-use Rattle.css_model.specs.Wire.{encoded}
-use Rattle.css_model.specs.History.{Clock, Took}
 use Rattle.css_companion.specs.Standing as companions
-use Rattle.css_companion.specs.Standing.{Companion}
-use Rattle.css_server.specs.Tickets.{Server, Ticket, response_to, follow_up_for}
 use Rattle.css_server.specs.declared.server.Answered.{Answered}
-use Rattle.css_schedule.specs.declared.header.Header.{Header}
-use Rattle.css_schedule.specs.declared.line.Verb.TheVariants.{Give, Land}
-use Rattle.css_meaning.specs.Happened.{Numbered, tickets, taken_for, datagrams, made_for, server_of, answers_to}
-use Rattle.css_meaning.specs.Happened.{is_given, peer, bytes_of, events_of, history_of}
-use Rattle.css_meaning.specs.Numbering.{numbered, stored, spent}
-use Rattle.css_meaning.specs.Verdicts.{is_for}
-use Rattle.css_meaning.proofs.Made.{made_count, mapped_some, numbered-le}
 use Rattle.css_world.specs.declared.television.Television.{Television}
 use Rattle.css_world.specs.Standing.{Kept, AreStored, owner, open_ticket, EndsStand, IsAnswerTo, Answers}
 use Rattle.css_world.specs.Lanes.{LaneStands}
 use Rattle.css_world.specs.declared.lane.Lane.{Lane}
+use Rattle.css_world.proofs.Names.{option_flatten, encoded, Clock, Took, Companion, Server, Ticket, response_to}
+use Rattle.css_world.proofs.Names.{follow_up_for, Header, Give, Land, Numbered, tickets, taken_for, datagrams, made_for}
+use Rattle.css_world.proofs.Names.{server_of, answers_to, is_given, peer, bytes_of, events_of, history_of, numbered}
+use Rattle.css_world.proofs.Names.{stored, spent, is_for, made_count, mapped_some, numbered-le}
 use Rattle.css_world.proofs.Storing.{pushed, spent_stored}
 use Rattle.css_world.proofs.Carrying.{own_line, all_lanes, one_lane}
 use Rattle.css_world.proofs.Numbers.{stored_none, mapped_none}
+use Rattle.css_world.proofs.Verbs.{quiet}
 
 -- ---- an answer
--- a server's response tells what it declares
-response_same : (server : Server) (header : Header) (ticket : Ticket) (reading : ℕ)
-    → server.precision ≡ header.tv_precision → server.error ≡ header.tv_error
-    → response_to server ticket reading ≡ response_to (server_of header) ticket reading
-response_same server header ticket reading precision error =
-    ap (λ p. response_to (record server { precision = p }) ticket reading) precision
-    ∙ ap (λ e. response_to (record {
-      precision = header.tv_precision;
-      error = e;
-      follow = server.follow;
-      greatest = server.greatest;
-    }) ticket reading) error
-
--- and so does its follow-up
-follow_up_same : (server : Server) (header : Header) (ticket : Ticket) (reading : ℕ)
-    → server.precision ≡ header.tv_precision → server.error ≡ header.tv_error
-    → follow_up_for server ticket reading ≡ follow_up_for (server_of header) ticket reading
-follow_up_same server header ticket reading precision error =
-    ap (λ p. follow_up_for (record server { precision = p }) ticket reading) precision
-    ∙ ap (λ e. follow_up_for (record {
-      precision = header.tv_precision;
-      error = e;
-      follow = server.follow;
-      greatest = server.greatest;
-    }) ticket reading) error
-
--- the answer is that of the television that the header declares
+-- the answer is that of the television that the header declares: it tells nothing but what that declares
 pub answer_same : (server : Server) (header : Header) (ticket : Ticket) (reading : ℕ) (answered : Answered)
     → server.precision ≡ header.tv_precision → server.error ≡ header.tv_error
     → IsAnswerTo server ticket reading answered → IsAnswerTo (server_of header) ticket reading answered
 answer_same server header ticket reading answered precision error is = record {
-  response = is.response ∙ ap encoded (response_same server header ticket reading precision error);
-  follow_up = is.follow_up ∙ ap (option_map encoded) (follow_up_same server header ticket reading precision error);
+  response = rw error at (rw precision at is.response);
+  follow_up = rw error at (rw precision at is.follow_up);
 }
 
 -- datagrams are seen as their bytes
@@ -131,8 +99,7 @@ answer_owned server ticket reading asker answered items older is are =
 pub given : (old : Kept) (lines : List Numbered) (number t w who l take reading asker : ℕ) (ticket : Ticket)
     (answered : Answered) (tv : Television) (made : List (List ℕ)) (owners : List ℕ)
     → EndsStand old lines → option_flatten (stored old.tv.takes.items take) ≡ Some ticket
-    → stored old.taken_for take ≡ Some asker
-    → tv.tv ≡ old.tv.tv → tv.takes.items ≡ spent old.tv.takes.items take
+    → stored old.taken_for take ≡ Some asker → tv.tv ≡ old.tv.tv → tv.takes.items ≡ spent old.tv.takes.items take
     → IsAnswerTo (server_of old.header) ticket reading answered
     → made ≡ old.datagrams ++ answered.response ∷ option_to_list answered.follow_up
     → owners ≡ old.made_for ++ asker ∷ option_to_list (option_map (λ bytes. asker) answered.follow_up)
@@ -207,29 +174,14 @@ landed old lines number t w who l datagram reading bytes lane companion ends fir
     let same : bytes_of (numbered datagram made) ≡ bytes = ap bytes_of came.1 ∙ came.2 in
     let mine = owner_stored (numbered datagram (made_for old.header lines)) datagram who
     (sym (ends.made_for.each datagram) ∙ whose) in
+    let after : Lane = record lane { companion = companion } in
     let stand : LaneStands who (events_of old.header lines)
-    (Clock why.Land reading ∷ Took peer (bytes_of (numbered datagram made)) ∷ own)
-    (record lane { companion = companion }) =
-    record {
-      companion = rw same stands;
-      cii = was.cii;
-      ts = was.ts;
-    } in (
+    (Clock why.Land reading ∷ Took peer (bytes_of (numbered datagram made)) ∷ own) after =
+    record { companion = rw same stands; cii = was.cii; ts = was.ts } in (
       ap (is_for who) mine ∙ eq-eqb who who refl,
-      record {
-        lanes = one_lane old.header lines number t w who l (Land datagram reading) old.lanes
-            (record lane { companion = companion }) refl first within ends.lanes stand;
-        stage = ends.stage;
-        server = ends.server;
-        in_range = ends.in_range;
-        none_ahead = ends.none_ahead;
-        requests = ends.requests;
-        askers = ends.askers;
-        takes = ends.takes;
-        taken_for = ends.taken_for;
-        datagrams = ends.datagrams;
-        made_for = ends.made_for;
-      },
+      quiet old lines number t w who l (Land datagram reading) old.tv.tv (slice_set old.lanes (who - 1) after) tt ends
+          refl ends.stage (one_lane old.header lines number t w who l (Land datagram reading) old.lanes after refl first
+          within ends.lanes stand),
     )
 
 -- Where no datagram of that number is stored, or it is for another companion, none lands.

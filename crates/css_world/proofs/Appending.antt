@@ -1,8 +1,7 @@
 -- Lists that begin as before.
 use Rattle.std.proofs.Common.{◌≡◌, List, ◌++◌, length, take, drop, append_assoc, ap, sym, ◌∙◌}
 use Rattle.std.specs.Prelude.{Result, Ok, Err, OnOk, OnErr}
-use Rattle.std.proofs.Math.Seq.{take-append_seam}
-use Rattle.std.proofs.lemmas.List.{take-append-drop}
+use Rattle.css_world.proofs.Names.{take-append_seam, take-append-drop}
 
 -- a list that begins with a longer one begins with what that begins with
 pub begins : {A : Type 0} (first more longer whole : List A) → longer ≡ first ++ more

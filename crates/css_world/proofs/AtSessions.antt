@@ -1,34 +1,18 @@
 -- What happens at a session is carried out: both ends stand for the line too.
-use Rattle.std.proofs.Common.{◌≡◌, ◌≤◌, ◌-◌, ◌==◌, ℕ, true, false, List, ◌∷◌, length, arith, ◌++◌, refl, ap, sym}
-use Rattle.std.proofs.Common.{◌∙◌, inl, option_map, option_to_list, slice_set, Option, Some, None, Ok}
+use Rattle.std.proofs.Common.{◌≡◌, ◌≤◌, ◌-◌, ◌==◌, ℕ, true, false, List, ◌∷◌, length, arith, ◌++◌, refl, ap, sym, ◌∙◌}
+use Rattle.std.proofs.Common.{inl, option_map, option_to_list, slice_set, Option, Some, None, Ok}
 use Rattle.css_model.specs.declared.Kind.TheVariants as session
-use Rattle.css_model.specs.History.{History, Dialled, Heard, Wrote, Closed}
-use Rattle.css_num.specs.declared.protocol.Kind.{Kind}
 use Rattle.css_num.specs.declared.protocol.Kind.TheVariants as kind
 use Rattle.css_sessions.specs.Kept.{Kept, talk_of}
 use Rattle.css_sessions.specs.Told.{sessions_of}
 use Rattle.css_tsmsg.specs.Presentations.{presentation_text}
 use Rattle.css_tsmsg.specs.Setups.{setup_text}
-use Rattle.css_tsmsg.specs.declared.bound.Bound.{Bound}
-use Rattle.css_tsmsg.specs.declared.setup.Setup.{Setup}
 use Rattle.css_tv.specs.Stages.{Television as Tv}
-use Rattle.css_tv.specs.Standing.{calls_of}
-use Rattle.css_tv.specs.declared.event.TvEvent.{TvEvent}
 use Rattle.css_tv.specs.declared.event.TvEvent.TheVariants as event
 use Rattle.css_companion.specs.Standing as companions
-use Rattle.css_companion.specs.Standing.{Companion}
 use Rattle.css_companion.specs.Contents.{next_number, told}
 use Rattle.css_companion.specs.Meanings.{kind_of, texts_of}
-use Rattle.css_companion.specs.Steps.{window, owed, none_owed, IsEvent, IsEntryOf}
 use Rattle.css_companion.specs.declared.event.CompanionEvent.TheVariants as happening
-use Rattle.css_schedule.specs.declared.line.Verb.TheVariants.{Opening, Bring, Up, Present, Close}
-use Rattle.css_meaning.specs.Sessions.{addresses, peer_of, setup_of, is_open, was_opened, heard_from, written_to}
-use Rattle.css_meaning.specs.Sessions.{received_from, told_to, next_down}
-use Rattle.css_meaning.specs.Happened.{Numbered, dialled, events_of, history_of}
-use Rattle.css_meaning.specs.Numbering.{stored}
-use Rattle.css_meaning.specs.Verdicts.{IsDeclared, played}
-use Rattle.css_meaning.specs.Accepted.{AreAccepted}
-use Rattle.css_meaning.proofs.Peers.{cii_of, ts_of, cii-ts, ts-cii, others-peer}
 use Rattle.css_meaning.proofs.Entries.{dialled-open, dialled-was, dialled-open_apart, dialled-was_apart, closed-open}
 use Rattle.css_meaning.proofs.Entries.{closed-open_apart, heard-apart, wrote-one, heard-one as heard-now, wrote-apart}
 use Rattle.css_meaning.proofs.Entries.{received-one, received-apart}
@@ -41,7 +25,12 @@ use Rattle.css_world.specs.Flights.{Session, opened, closed, first_in, rest_in, 
 use Rattle.css_world.specs.Flights.{SessionStands, HasNews}
 use Rattle.css_world.specs.Lanes.{LaneStands, KeepsAllButTexts, IsPlayed, KeepsAllBut, session_at, other, next_at}
 use Rattle.css_world.specs.Lanes.{taken_at, heard_as, closed_as, Greets}
-use Rattle.css_world.specs.Standing.{Kept as Both, EndsStand}
+use Rattle.css_world.specs.Standing.{Kept as Both, EndsStand, IsReady}
+use Rattle.css_world.proofs.Names.{History, Dialled, Heard, Wrote, Closed, Kind, Bound, Setup, calls_of, TvEvent}
+use Rattle.css_world.proofs.Names.{Companion, window, owed, none_owed, IsEvent, IsEntryOf, Verb, Opening, Bring, Up}
+use Rattle.css_world.proofs.Names.{Present, Close, addresses, peer_of, setup_of, is_open, was_opened, heard_from}
+use Rattle.css_world.proofs.Names.{written_to, received_from, told_to, next_down, Numbered, dialled, events_of}
+use Rattle.css_world.proofs.Names.{history_of, stored, IsDeclared, played, AreAccepted, cii_of, ts_of, cii-ts, ts-cii}
 use Rattle.css_world.proofs.Carrying.{own_line, one_lane}
 use Rattle.css_world.proofs.Flights.{is-live, heard-one, raised-one, written-one}
 use Rattle.css_world.proofs.Verbs.{quiet, session-played, aside, dialled-aside, wrote-aside, WhenPlayed, WhenAttended}
@@ -55,10 +44,18 @@ two_peers who kind.Cii first = cii-ts who first
 two_peers who kind.Ts first = ts-cii who first
 
 -- a lane's session of a kind, of both
-pub at_kind : (k : Kind) (who : ℕ) (events : List TvEvent) (own : History) (lane : Lane)
+at_kind : (k : Kind) (who : ℕ) (events : List TvEvent) (own : History) (lane : Lane)
     → LaneStands who events own lane → SessionStands (peer_of who k) events own (session_at k lane)
 at_kind kind.Cii who events own lane stands = stands.cii
 at_kind kind.Ts who events own lane stands = stands.ts
+
+-- so it is of ready ends
+pub stands_at : {ends : Both} {lines : List Numbered} (ready : IsReady ends lines) (who : ℕ) (k : Kind) {lane : Lane}
+    → stored ends.lanes who ≡ Some lane
+    → SessionStands (peer_of who k) (events_of ends.header lines) (history_of who ends.header lines) (session_at k lane)
+stands_at {ends} {lines} ready who k {lane} found =
+    at_kind k who (events_of ends.header lines) (history_of who ends.header lines) lane
+    (ready.ends.lanes who lane found)
 
 played_at : (k : Kind) (who : ℕ) (events : List TvEvent) (e : TvEvent) (old new : Lane) → IsPlayed who events e old new
     → HasNews (peer_of who k) events e (session_at k old) (session_at k new)
@@ -100,71 +97,67 @@ owes-nothing kind.Cii companion = refl
 owes-nothing kind.Ts companion = refl
 
 module _ (old : Both) (lines : List Numbered) (number t w who l : ℕ) where
+  -- what happened at the television and what the companion did before the line, and the lines with it
+  abbrev events : List TvEvent
+  events = events_of old.header lines
+
+  abbrev own : History
+  own = history_of who old.header lines
+
+  abbrev after : Verb → List Numbered
+  after verb = own_line number t w who l verb ∷ lines
+
+  abbrev Stands : Kind → Session → Type 0
+  Stands k session = SessionStands (peer_of who k) events own session
+
   -- ---- what was not touched
   -- the companion, from the own session's change on
-  stood_on : (k : Kind) (lane between mid : Lane)
-      → LaneStands who (events_of old.header lines) (history_of who old.header lines) lane → KeepsAllBut k lane between
-      → mid.companion ≡ between.companion → companions.StandsFor mid.companion (history_of who old.header lines)
+  stood_on : (k : Kind) (lane between mid : Lane) → LaneStands who events own lane → KeepsAllBut k lane between
+      → mid.companion ≡ between.companion → companions.StandsFor mid.companion own
   stood_on k lane between mid before rest same = rw (same ∙ rest.companion) before.companion
 
   -- and the other session
-  other_stood : (k : Kind) (lane between : Lane)
-      → LaneStands who (events_of old.header lines) (history_of who old.header lines) lane → KeepsAllBut k lane between
-      → SessionStands (peer_of who (other k)) (events_of old.header lines) (history_of who old.header lines)
-      (session_at (other k) between)
-  other_stood k lane between before rest =
-      let events = events_of old.header lines in
-      let own = history_of who old.header lines in
-      rw rest.other (at_kind (other k) who events own lane before)
+  other_stood : (k : Kind) (lane between : Lane) → LaneStands who events own lane → KeepsAllBut k lane between
+      → Stands (other k) (session_at (other k) between)
+  other_stood k lane between before rest = rw rest.other (at_kind (other k) who events own lane before)
 
   -- ---- openings
   -- the television has no session of a peer that opens one
   pub no-session : (k : Kind) (before after : Session) (peer : ℕ) → 1 ≤ who → AreAccepted old.header lines
-      → EndsStand old lines
-      → SessionStands (peer_of who k) (events_of old.header lines) (history_of who old.header lines) before
-      → opened before ≡ Ok after
-      → old.tv.tv.stage.addresses ≡ addresses → peer ≡ peer_of who k
-      → talk_of peer old.tv.tv.stage.sessions.list ≡ None
+      → EndsStand old lines → Stands k before → opened before ≡ Ok after → old.tv.tv.stage.addresses ≡ addresses
+      → peer ≡ peer_of who k → talk_of peer old.tv.tv.stage.sessions.list ≡ None
   no-session k before after peer first accepted ends stands ok same is =
-      let events = events_of old.header lines in
       ap (λ p. talk_of p old.tv.tv.stage.sessions.list) is
       ∙ ap (λ (kept : Kept). talk_of (peer_of who k) kept.list) ends.stage.sessions.same
       ∙ ap (λ a. talk_of (peer_of who k) (sessions_of (calls_of a events).sessions).list) same
       ∙ no_talk old.header lines who k first accepted (never-open old.header lines who k before after stands ok)
 
   -- A session is dialled, and the companion writes its setup where that is a TS session.
-  greeted : (k : Kind) (mid final : Lane) → 1 ≤ who
-      → companions.StandsFor mid.companion (history_of who old.header lines)
+  greeted : (k : Kind) (mid final : Lane) → 1 ≤ who → companions.StandsFor mid.companion own
       → SessionCarries (session_at k mid) true true
-      (told_to (peer_of who k) (event.Opened (peer_of who k) k ∷ events_of old.header lines))
-      (heard_from (peer_of who k) (history_of who old.header lines))
-      (written_to (peer_of who k) (history_of who old.header lines))
-      (received_from (peer_of who k) (events_of old.header lines))
-      → SessionStands (peer_of who (other k)) (event.Opened (peer_of who k) k ∷ events_of old.header lines)
-      (history_of who old.header lines) (session_at (other k) mid)
+      (told_to (peer_of who k) (event.Opened (peer_of who k) k ∷ events)) (heard_from (peer_of who k) own)
+      (written_to (peer_of who k) own) (received_from (peer_of who k) events)
+      → SessionStands (peer_of who (other k)) (event.Opened (peer_of who k) k ∷ events) own (session_at (other k) mid)
       → mid.companion.setup ≡ setup_of who old.header → WhenGreeted k mid.companion final.companion
       → final.cii ≡ mid.cii → Greets k mid final
-      → LaneStands who (event.Opened (peer_of who k) k ∷ events_of old.header lines)
-      (dialled old.header who k (history_of who old.header lines)) final
+      → LaneStands who (event.Opened (peer_of who k) k ∷ events) (dialled old.header who k own) final
   greeted kind.Cii mid final first stood here there asks greets same_cii after =
       let peer = cii_of who in
-      let events = event.Opened peer kind.Cii ∷ events_of old.header lines in
-      let own = history_of who old.header lines in
+      let now = event.Opened peer kind.Cii ∷ events in
       let history = Dialled session.Cii peer ∷ own in
       let apart = cii-ts who first in
       record {
         companion = aside final.companion (Dialled session.Cii peer) own (dialled-aside peer own)
             (greets own own stood refl);
-        cii = rw same_cii (session_as mid.cii peer events history _ _ _ _ _ (dialled-open peer session.Cii own)
+        cii = rw same_cii (session_as mid.cii peer now history _ _ _ _ _ (dialled-open peer session.Cii own)
             (dialled-was peer session.Cii own) refl refl refl here);
-        ts = rw after (session_as mid.ts (ts_of who) events history _ _ _ _ _
+        ts = rw after (session_as mid.ts (ts_of who) now history _ _ _ _ _
             (dialled-open_apart (ts_of who) peer apart session.Cii own)
             (dialled-was_apart (ts_of who) peer apart session.Cii own) refl refl refl there);
       }
   greeted kind.Ts mid final first stood here there asks greets same_cii after =
       let peer = ts_of who in
-      let events = event.Opened peer kind.Ts ∷ events_of old.header lines in
-      let own = history_of who old.header lines in
+      let now = event.Opened peer kind.Ts ∷ events in
       let setup = setup_text (setup_of who old.header) in
       let begun = Dialled session.Ts peer ∷ own in
       let history = Wrote peer setup ∷ begun in
@@ -174,45 +167,41 @@ module _ (old : Both) (lines : List Numbered) (number t w who l : ℕ) where
       record {
         companion = aside final.companion (Wrote peer setup) begun (wrote-aside peer setup begun)
             (greets own begun stood (peer, refl));
-        cii = rw same_cii (session_as mid.cii (cii_of who) events history _ _ _ _ _
+        cii = rw same_cii (session_as mid.cii (cii_of who) now history _ _ _ _ _
             (dialled-open_apart (cii_of who) peer apart session.Ts own)
             (dialled-was_apart (cii_of who) peer apart session.Ts own) refl
             (wrote-apart (cii_of who) peer apart setup begun) refl there);
-        ts = session_as final.ts peer events history true true (heard_from peer own)
-            (setup ∷ written_to peer own) (received_from peer (events_of old.header lines))
-            (dialled-open peer session.Ts own) (dialled-was peer session.Ts own) refl
-            (wrote-one peer setup begun) refl
+        ts = session_as final.ts peer now history _ _ _ _ _ (dialled-open peer session.Ts own)
+            (dialled-was peer session.Ts own) refl (wrote-one peer setup begun) refl
             (rw written (written-one setup here));
       }
 
   -- a session opens
   pub opens_at : (k : Kind) (lane between mid final : Lane) (tv : Tv) (played : List Lane)
-      → AreAccepted old.header lines → EndsStand old lines
-      → 1 ≤ who → who ≤ length old.lanes → stored old.lanes who ≡ Some lane
-      → opened (session_at k lane) ≡ Ok (session_at k between) → KeepsAllBut k lane between
+      → AreAccepted old.header lines → EndsStand old lines → 1 ≤ who → who ≤ length old.lanes
+      → stored old.lanes who ≡ Some lane → opened (session_at k lane) ≡ Ok (session_at k between)
+      → KeepsAllBut k lane between
       → WhenPlayed (event.Opened (peer_of who k) k) old.tv.tv tv (slice_set old.lanes (who - 1) between) played
       → tv.server ≡ old.tv.tv.server → KeepsAllButTexts (slice_set old.lanes (who - 1) between) played
       → stored played who ≡ Some mid → lane.companion.setup ≡ setup_of who old.header
       → WhenGreeted k mid.companion final.companion → final.cii ≡ mid.cii → Greets k mid final
       → EndsStand (record old { tv = record old.tv { tv = tv }; lanes = slice_set played (who - 1) final })
-      (own_line number t w who l (Opening k) ∷ lines)
+      (after (Opening k))
   opens_at k lane between mid final tv played accepted ends first within found ok rest plays same kept there asked
       greets same_cii after =
       let e = event.Opened (peer_of who k) k in
       let before = ends.lanes who lane found in
-      let mine = at_kind k who (events_of old.header lines) (history_of who old.header lines) lane before in
+      let mine = at_kind k who events own lane before in
       let never = never-open old.header lines who k (session_at k lane) (session_at k between) mine ok in
-      let done = plays (events_of old.header lines) ends.stage
-      (never_opened old.header lines who k first accepted never) in
+      let done = plays events ends.stage (never_opened old.header lines who k first accepted never) in
       quiet old lines number t w who l (Opening k) tv (slice_set played (who - 1) final) tt ends same done.stage
-      (attended_lanes old lines number t w who l (Opening k) e tv between mid final played ends first within refl
-      (λ n j above differs. others-peer n who k j above first (λ is. differs (sym is))) done kept there
+      (attended_lanes old lines number t w who l (Opening k) e tv between mid final played ends
+      (record { first = first; within = within; is = refl; k = k; own = λ peer. refl; all = done; kept = kept }) there
       (λ now companion.
       greeted k mid final first (stood_on k lane between mid before rest companion)
-      (session-played (played_at k who (events_of old.header lines) e between mid now)
+      (session-played (played_at k who events e between mid now)
       (opens old.header lines who k (session_at k lane) (session_at k between) first accepted mine ok))
-      (session-played (played_at (other k) who (events_of old.header lines) e between mid now)
-      (other_stood k lane between before rest))
+      (session-played (played_at (other k) who events e between mid now) (other_stood k lane between before rest))
       (ap (λ (c : Companion). c.setup) (companion ∙ rest.companion) ∙ asked) greets same_cii after))
 
   -- ---- texts
@@ -222,13 +211,10 @@ module _ (old : Both) (lines : List Numbered) (number t w who l : ℕ) where
       → next_at k lane ≡ Some text → session_at k between ≡ taken_at k lane → KeepsAllBut k lane between
       → final.cii ≡ between.cii → final.ts ≡ between.ts
       → WhenAttended (heard_as k text) between.companion final.companion
-      → EndsStand (record old { lanes = slice_set old.lanes (who - 1) final })
-      (own_line number t w who l (Bring k) ∷ lines)
+      → EndsStand (record old { lanes = slice_set old.lanes (who - 1) final }) (after (Bring k))
   brings k text lane between final accepted ends first within found first_text after rest same_cii same_ts attends =
       let peer = peer_of who k in
       let apart = peer_of who (other k) in
-      let events = events_of old.header lines in
-      let own = history_of who old.header lines in
       let history = Heard peer text ∷ own in
       let before = ends.lanes who lane found in
       let mine = at_kind k who events own lane before in
@@ -239,8 +225,7 @@ module _ (old : Both) (lines : List Numbered) (number t w who l : ℕ) where
       both_at k who events history final
       (attends own (Heard peer text) (rw rest.companion before.companion)
       (heard_entry k peer text own (open_kind old.header lines who k first accepted next.0)))
-      (session_as (session_at k final) peer events history true (was_opened peer own) (text ∷ heard_from peer own)
-      (written_to peer own) (received_from peer events) next.0 refl (heard-now peer text own) refl refl
+      (session_as (session_at k final) peer events history _ _ _ _ _ next.0 refl (heard-now peer text own) refl refl
       (rw (same_at k between final same_cii same_ts ∙ after) (heard-one text live first_text)))
       (session_as (session_at (other k) final) apart events history _ _ _ _ _ refl refl
       (heard-apart apart peer (two_peers who k first) text own) refl refl
@@ -252,11 +237,9 @@ module _ (old : Both) (lines : List Numbered) (number t w who l : ℕ) where
   -- a text of the television is never refused, and nothing is owed after it
   pub owes-none : (k : Kind) (lane between : Lane) (text : List ℕ) → 1 ≤ who → IsDeclared old.header
       → AreAccepted old.header lines → EndsStand old lines → stored old.lanes who ≡ Some lane
-      → between.companion ≡ lane.companion
-      → next_down who k (events_of old.header lines) (history_of who old.header lines) ≡ Some text
+      → between.companion ≡ lane.companion → next_down who k events own ≡ Some text
       → owed between.companion (heard_as k text) ≡ Ok None
   owes-none kind.Cii lane between text first declared accepted ends found same next =
-      let own = history_of who old.header lines in
       let before = ends.lanes who lane found in
       ap (λ (c : Companion). owed c (happening.CiiText text)) same
       ∙ ap (λ k. none_owed (told (next_number k) lane.companion.state text)) before.companion.texts
@@ -267,38 +250,31 @@ module _ (old : Both) (lines : List Numbered) (number t w who l : ℕ) where
   -- a text of the companion comes to the television
   pub raises : (text : List ℕ) (lane : Lane) (ts : Session) (tv : Tv) (lanes : List Lane) → EndsStand old lines
       → 1 ≤ who → who ≤ length old.lanes → stored old.lanes who ≡ Some lane
-      → first_in lane.ts.phase lane.ts.up ≡ Some text
-      → ts ≡ record lane.ts { up = rest_in lane.ts.phase lane.ts.up }
+      → first_in lane.ts.phase lane.ts.up ≡ Some text → ts ≡ record lane.ts { up = rest_in lane.ts.phase lane.ts.up }
       → WhenPlayed (event.Heard (ts_of who) text) old.tv.tv tv
-      (slice_set old.lanes (who - 1) (record lane { ts = ts })) lanes
-      → tv.server ≡ old.tv.tv.server
+      (slice_set old.lanes (who - 1) (record lane { ts = ts })) lanes → tv.server ≡ old.tv.tv.server
       → KeepsAllButTexts (slice_set old.lanes (who - 1) (record lane { ts = ts })) lanes
-      → EndsStand (record old { tv = record old.tv { tv = tv }; lanes = lanes }) (own_line number t w who l Up ∷ lines)
-  raises text lane ts tv lanes ends first within found first_text after plays same kept =
+      → EndsStand (record old { tv = record old.tv { tv = tv }; lanes = lanes }) (after Up)
+  raises text lane ts tv lanes ends first within found first_text left plays same kept =
       let peer = ts_of who in
-      let other = ts-cii who first in
       let e = event.Heard peer text in
-      let events = events_of old.header lines in
-      let own = history_of who old.header lines in
       let before = ends.lanes who lane found in
       let next = can-raise old.header lines who lane.ts text before.ts first_text in
-      let is : events_of old.header (own_line number t w who l Up ∷ lines) ≡ e ∷ events =
+      let is : events_of old.header (after Up) ≡ e ∷ events =
       ap (λ (o : Option (List ℕ)). option_to_list (option_map (event.Heard peer) o) ++ events) next.1 in
       let done = plays events ends.stage tt in
       let live : SessionCarries lane.ts true (was_opened peer own) (told_to peer events) (heard_from peer own)
       (written_to peer own) (received_from peer events) = rw next.0 at before.ts in
       let raised : SessionCarries ts true (was_opened peer own) (told_to peer events) (heard_from peer own)
-      (written_to peer own) (text ∷ received_from peer events) = rw after (raised-one text live first_text) in
-      quiet old lines number t w who l Up tv lanes tt ends same
-      (rw is done.stage)
-      (event_lanes old lines number t w who l Up e tv (record lane { ts = ts }) lanes ends first within is
-      (λ n k above differs. others-peer n who kind.Ts k above first (λ is. differs (sym is))) done kept
+      (written_to peer own) (text ∷ received_from peer events) = rw left (raised-one text live first_text) in
+      quiet old lines number t w who l Up tv lanes tt ends same (rw is done.stage)
+      (event_lanes old lines number t w who l Up e tv (record lane { ts = ts }) lanes ends
+      (record { first = first; within = within; is = is; k = kind.Ts; own = λ peer. refl; all = done; kept = kept })
       (λ final played companion. record {
         companion = rw companion before.companion;
         cii = session_as final.cii (cii_of who) (e ∷ events) own _ _ _ _ _ refl refl refl refl
-            (received-apart (cii_of who) peer other text events) (session-played played.cii before.cii);
-        ts = session_as final.ts peer (e ∷ events) own true (was_opened peer own) (heard_from peer own)
-            (written_to peer own) (text ∷ received_from peer events) next.0 refl refl refl
+            (received-apart (cii_of who) peer (ts-cii who first) text events) (session-played played.cii before.cii);
+        ts = session_as final.ts peer (e ∷ events) own _ _ _ _ _ next.0 refl refl refl
             (received-one peer text events) (session-played played.ts raised);
       }))
 
@@ -307,25 +283,22 @@ module _ (old : Both) (lines : List Numbered) (number t w who l : ℕ) where
       → 1 ≤ who → who ≤ length old.lanes → stored old.lanes who ≡ Some lane → lane.ts.phase ≡ phases.Open
       → final.companion ≡ lane.companion → final.cii ≡ lane.cii
       → final.ts ≡ with_written (Some (presentation_text (window earliest latest))) lane.ts
-      → EndsStand (record old { lanes = slice_set old.lanes (who - 1) final })
-      (own_line number t w who l (Present earliest latest) ∷ lines)
+      → EndsStand (record old { lanes = slice_set old.lanes (who - 1) final }) (after (Present earliest latest))
   presents earliest latest lane final ends first within found is_live same_companion same_cii after =
       let peer = ts_of who in
-      let events = events_of old.header lines in
-      let own = history_of who old.header lines in
       let before = ends.lanes who lane found in
       let text : List ℕ = presentation_text (window earliest latest) in
+      let history = Wrote peer text ∷ own in
       let live : is_open peer own ≡ true =
       is-live (is_open peer own) (was_opened peer own) (sym before.ts.phase ∙ is_live) in
       let carries : SessionCarries lane.ts true (was_opened peer own) (told_to peer events) (heard_from peer own)
       (written_to peer own) (received_from peer events) = rw live at before.ts in
-      let stands : LaneStands who events (Wrote peer text ∷ own) final = record {
+      let stands : LaneStands who events history final = record {
         companion = rw same_companion (aside lane.companion (Wrote peer text) own (wrote-aside peer text own)
             before.companion);
-        cii = rw same_cii (session_as lane.cii (cii_of who) events (Wrote peer text ∷ own) _ _ _ _ _ refl refl refl
+        cii = rw same_cii (session_as lane.cii (cii_of who) events history _ _ _ _ _ refl refl refl
             (wrote-apart (cii_of who) peer (ts-cii who first) text own) refl before.cii);
-        ts = session_as final.ts peer events (Wrote peer text ∷ own) true (was_opened peer own) (heard_from peer own)
-            (text ∷ written_to peer own) (received_from peer events) live refl refl (wrote-one peer text own) refl
+        ts = session_as final.ts peer events history _ _ _ _ _ live refl refl (wrote-one peer text own) refl
             (rw after (written-one text carries));
       } in
       quiet old lines number t w who l (Present earliest latest) old.tv.tv (slice_set old.lanes (who - 1) final) tt ends
@@ -336,30 +309,28 @@ module _ (old : Both) (lines : List Numbered) (number t w who l : ℕ) where
   -- ---- ends of sessions
   -- a session closes
   pub closes_at : (k : Kind) (lane between mid final : Lane) (tv : Tv) (played : List Lane)
-      → AreAccepted old.header lines → EndsStand old lines
-      → 1 ≤ who → who ≤ length old.lanes → stored old.lanes who ≡ Some lane
-      → closed (session_at k lane) ≡ Ok (session_at k between) → KeepsAllBut k lane between
+      → AreAccepted old.header lines → EndsStand old lines → 1 ≤ who → who ≤ length old.lanes
+      → stored old.lanes who ≡ Some lane → closed (session_at k lane) ≡ Ok (session_at k between)
+      → KeepsAllBut k lane between
       → WhenPlayed (event.Closed (peer_of who k)) old.tv.tv tv (slice_set old.lanes (who - 1) between) played
       → tv.server ≡ old.tv.tv.server → KeepsAllButTexts (slice_set old.lanes (who - 1) between) played
       → stored played who ≡ Some mid → WhenAttended (closed_as k) mid.companion final.companion
       → final.cii ≡ mid.cii → final.ts ≡ mid.ts
       → EndsStand (record old { tv = record old.tv { tv = tv }; lanes = slice_set played (who - 1) final })
-      (own_line number t w who l (Close k) ∷ lines)
+      (after (Close k))
   closes_at k lane between mid final tv played accepted ends first within found ok rest plays same kept there attends
       same_cii same_ts =
       let peer = peer_of who k in
       let apart = peer_of who (other k) in
       let e = event.Closed peer in
-      let events = events_of old.header lines in
-      let own = history_of who old.header lines in
       let history = Closed peer ∷ own in
       let before = ends.lanes who lane found in
       let mine = at_kind k who events own lane before in
       let done = plays events ends.stage tt in
       let live = can-close old.header lines who k (session_at k lane) (session_at k between) mine ok in
       quiet old lines number t w who l (Close k) tv (slice_set played (who - 1) final) tt ends same done.stage
-      (attended_lanes old lines number t w who l (Close k) e tv between mid final played ends first within refl
-      (λ n j above differs. others-peer n who k j above first (λ is. differs (sym is))) done kept there
+      (attended_lanes old lines number t w who l (Close k) e tv between mid final played ends
+      (record { first = first; within = within; is = refl; k = k; own = λ peer. refl; all = done; kept = kept }) there
       (λ now companion.
       both_at k who (e ∷ events) history final
       (attends own (Closed peer) (stood_on k lane between mid before rest companion)

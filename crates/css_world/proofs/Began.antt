@@ -1,20 +1,10 @@
 -- Both ends before their first line, and their clocks.
 use Rattle.std.proofs.Common.{◌≡◌, ◌-◌, ℕ, zero, suc, arith, refl, ap, sym, subst, ◌∙◌, List, [], length, FitsSigned}
 use Rattle.std.proofs.Common.{w8, option_map, Option, Some, None, unwrap_or, slice_get}
-use Rattle.css_model.specs.Wire.{encoded}
-use Rattle.css_model.specs.WallClock.{Local, IsLocal}
 use Rattle.css_server.specs.Exchanges as servers
-use Rattle.css_server.specs.Tickets.{Server}
 use Rattle.css_num.specs.declared.protocol.Kind.TheVariants as kind
-use Rattle.css_tsmsg.specs.declared.setup.Setup.{Setup}
 use Rattle.css_tv.specs.Standing as tvs
-use Rattle.css_schedule.specs.Ranges.{IsHeader, IsCount}
-use Rattle.css_schedule.specs.declared.header.CompanionLine.{CompanionLine}
-use Rattle.css_schedule.specs.declared.header.Header.{Header}
-use Rattle.css_meaning.specs.Happened.{server_of}
-use Rattle.css_meaning.specs.Numbering.{stored, numbered}
-use Rattle.css_meaning.specs.Sessions.{addresses, setup_of, peer_of}
-use Rattle.css_meaning.specs.Verdicts.{IsDeclared, local_of}
+use Rattle.css_meaning.specs.Verdicts.{local_of}
 use Rattle.css_world.specs.declared.lane.Lane.{Lane}
 use Rattle.css_world.specs.declared.watch.Watch.{Watch}
 use Rattle.css_world.specs.declared.television.Television.{Television}
@@ -22,6 +12,8 @@ use Rattle.css_world.specs.Flights.{Session, SessionStands, unopened}
 use Rattle.css_world.specs.Lanes.{IsFresh, AreFresh, IsLaneOf, setup_by}
 use Rattle.css_world.specs.Standing.{Kept, EndsAre, EndsStand, IsReady, AreStored, AreNew, WatchStands, request_bytes}
 use Rattle.css_world.specs.Standing.{owner, open_ticket}
+use Rattle.css_world.proofs.Names.{encoded, Local, IsLocal, Server, Setup, IsHeader, IsCount, CompanionLine, Header}
+use Rattle.css_world.proofs.Names.{server_of, stored, numbered, addresses, setup_of, peer_of, IsDeclared}
 use Rattle.css_world.proofs.Fresh.{Each}
 use Rattle.css_world.proofs.Numbers.{stored_within, stored_there}
 
@@ -64,8 +56,7 @@ line_of companions items who item count each found =
 
 -- a new watch is as the header declares
 pub new_watch : (header : Header) (own : List Watch) → AreNew header.companions own → (who : ℕ) (watch : Watch)
-    → stored own who ≡ Some watch
-    → WatchStands (local_of who header).error (local_of who header).precision [] [] watch
+    → stored own who ≡ Some watch → WatchStands (local_of who header).error (local_of who header).precision [] [] watch
 new_watch header own are who watch found =
     let is = line_of header.companions own who watch are.count are.each found in
     subst (λ (l : Local). WatchStands l.error l.precision [] [] watch) (sym (local_at header who is.0 is.1)) is.2

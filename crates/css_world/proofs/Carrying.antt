@@ -1,31 +1,22 @@
 -- What the ends do at a line: they stand for the lines with it.
 use Rattle.std.proofs.Common.{◌≡◌, ◌≢◌, ℕ, suc, ◌-◌, ◌==◌, cond, ◌<◌, ◌≤◌, arith, Bool, true, false, List, [], ◌∷◌}
-use Rattle.std.proofs.Common.{◌++◌, length, refl, ap, sym, ◌∙◌, inl, inr, option_map, ◌&&◌, slice_set, Option}
-use Rattle.std.proofs.Common.{Some, option_to_list, Ok}
+use Rattle.std.proofs.Common.{◌++◌, length, refl, ap, sym, ◌∙◌, inl, inr, option_map, ◌&&◌, slice_set, Option, Some}
+use Rattle.std.proofs.Common.{option_to_list, Ok}
 use Rattle.std.specs.List.{AllByRecursion}
-use Rattle.std.proofs.lemmas.Bool.Decides.{eqb_tells}
 use Rattle.css_model.specs.declared.TheConstants.{LIMIT}
 use Rattle.css_model.specs.declared.Why.TheVariants as why
-use Rattle.css_model.specs.Wire.{encoded, decoded, request_at, stamp_of}
-use Rattle.css_model.specs.History.{History, Clock, Sent}
 use Rattle.css_companion.specs.Standing as companions
-use Rattle.css_companion.specs.Standing.{Companion}
-use Rattle.css_server.specs.Tickets.{Server, Ticket, ticket_for, is_greater}
 use Rattle.css_server.specs.Exchanges as servers
 use Rattle.css_server.specs.Exchanges.{greatest_reading}
-use Rattle.css_schedule.specs.declared.header.Header.{Header}
-use Rattle.css_schedule.specs.declared.line.Verb.{Verb}
-use Rattle.css_schedule.specs.declared.line.Verb.TheVariants.{Ask, Take}
-use Rattle.css_meaning.specs.Happened.{Numbered, requests, askers, tickets, ticket_at, taken_for, datagrams, is_given}
-use Rattle.css_meaning.specs.Happened.{peer, done_by, events_of, history_of}
-use Rattle.css_meaning.specs.Numbering.{numbered, stored}
 use Rattle.css_meaning.proofs.Ends.{history_now, history_other}
-use Rattle.css_meaning.proofs.Made.{mapped_some}
-use Rattle.css_meaning.proofs.Lawful.{request_back}
 use Rattle.css_world.specs.declared.television.Television.{Television}
 use Rattle.css_world.specs.Standing.{Kept, AreStored, request_bytes, owner, open_ticket, EndsStand}
 use Rattle.css_world.specs.Lanes.{LaneStands, LanesStand}
 use Rattle.css_world.specs.declared.lane.Lane.{Lane}
+use Rattle.css_world.proofs.Names.{eqb_tells, encoded, decoded, request_at, stamp_of, History, Clock, Sent, Companion}
+use Rattle.css_world.proofs.Names.{Server, Ticket, ticket_for, is_greater, Header, Verb, Ask, Take, Numbered, requests}
+use Rattle.css_world.proofs.Names.{askers, tickets, ticket_at, taken_for, datagrams, is_given, peer, done_by, events_of}
+use Rattle.css_world.proofs.Names.{history_of, numbered, stored, mapped_some, request_back}
 use Rattle.css_world.proofs.Numbers.{stored_same, set_there, set_others}
 use Rattle.css_world.proofs.Storing.{pushed}
 
@@ -49,66 +40,59 @@ at_line world lines now who verb own is ends =
 abbrev pub histories : Header → List Numbered → ℕ → History
 histories header lines = λ who. history_of who header lines
 
--- A verb that adds nothing to a history leaves all histories as they were, whosever line it is.
-pub unmoved : (header : Header) (lines : List Numbered) (number t w who l : ℕ) (verb : Verb)
-    → ((n : ℕ) → done_by header n (datagrams header lines) (events_of header lines) verb (history_of n header lines)
-    ≡ history_of n header lines)
-    → (n : ℕ) → history_of n header (own_line number t w who l verb ∷ lines) ≡ history_of n header lines
-unmoved header lines number t w who l verb still n = by (who == n)
-  where
-    by : (b : Bool) → cond b
-        (done_by header n (datagrams header lines) (events_of header lines) verb (history_of n header lines))
-        (history_of n header lines) ≡ history_of n header lines
-    by true = still n
-    by false = refl
+module _ (header : Header) (lines : List Numbered) (number t w who l : ℕ) (verb : Verb) where
+  -- the lines with one more
+  abbrev after : List Numbered
+  after = own_line number t w who l verb ∷ lines
 
--- so all lanes stand for them, where they stand for what happened at the television
-pub all_lanes : (header : Header) (lines : List Numbered) (number t w who l : ℕ) (verb : Verb) (lanes : List Lane)
-    → ((n : ℕ) → done_by header n (datagrams header lines) (events_of header lines) verb (history_of n header lines)
-    ≡ history_of n header lines)
-    → LanesStand (events_of header (own_line number t w who l verb ∷ lines)) (histories header lines) lanes
-    → LanesStand (events_of header (own_line number t w who l verb ∷ lines))
-    (histories header (own_line number t w who l verb ∷ lines)) lanes
-all_lanes header lines number t w who l verb lanes still stand n lane found =
-    rw (unmoved header lines number t w who l verb still n) (stand n lane found)
+  -- what companion `n` did, and what it did by then where it carries the verb out
+  abbrev did : ℕ → History
+  did n = history_of n header lines
 
--- At a line of companion `who` the lane of each other one stands for its own history of before.
-pub own_lanes : (header : Header) (lines : List Numbered) (number t w who l : ℕ) (verb : Verb) (lanes : List Lane)
-    → ((n : ℕ) (lane : Lane) → stored lanes n ≡ Some lane → n ≢ who
-    → LaneStands n (events_of header (own_line number t w who l verb ∷ lines)) (history_of n header lines) lane)
-    → ((lane : Lane) → stored lanes who ≡ Some lane
-    → LaneStands who (events_of header (own_line number t w who l verb ∷ lines))
-    (done_by header who (datagrams header lines) (events_of header lines) verb (history_of who header lines)) lane)
-    → LanesStand (events_of header (own_line number t w who l verb ∷ lines))
-    (histories header (own_line number t w who l verb ∷ lines)) lanes
-own_lanes header lines number t w who l verb lanes others own n lane found = elim (eqb_tells n who) [
-  | inl same ↦
-      let now = own_line number t w who l verb in
-      let here = own lane (rw same.1 at found) in
-      rw same.1 (rw (history_now header now lines who refl) here)
-  | inr differs ↦
-      let now = own_line number t w who l verb in
-      rw (history_other header now lines n (λ same. differs.1 (sym same))) (others n lane found differs.1)
-]
+  abbrev does : ℕ → History
+  does n = done_by header n (datagrams header lines) (events_of header lines) verb (did n)
 
--- where nothing happened at the television, one lane alone was touched
-pub one_lane : (header : Header) (lines : List Numbered) (number t w who l : ℕ) (verb : Verb) (lanes : List Lane)
-    (lane : Lane)
-    → events_of header (own_line number t w who l verb ∷ lines) ≡ events_of header lines → 1 ≤ who
-    → who ≤ length lanes
-    → LanesStand (events_of header lines) (histories header lines) lanes
-    → LaneStands who (events_of header lines)
-    (done_by header who (datagrams header lines) (events_of header lines) verb (history_of who header lines)) lane
-    → LanesStand (events_of header (own_line number t w who l verb ∷ lines))
-    (histories header (own_line number t w who l verb ∷ lines)) (slice_set lanes (who - 1) lane)
-one_lane header lines number t w who l verb lanes lane none first within stand here =
-    own_lanes header lines number t w who l verb (slice_set lanes (who - 1) lane)
-    (λ n other found differs.
-    rw none (stand n other (sym (set_others lanes who n lane first differs) ∙ found)))
-    (λ same found.
-    let is : lane ≡ same =
-    stored_same (slice_set lanes (who - 1) lane) who lane same (set_there lanes who lane first within) found in
-    rw none (rw is at here))
+  -- Where the verb adds nothing to a history, whosever line it is, all lanes stand for their histories, if they stand
+  -- for what happened at the television.
+  pub all_lanes : (lanes : List Lane) → ((n : ℕ) → does n ≡ did n)
+      → LanesStand (events_of header after) (histories header lines) lanes
+      → LanesStand (events_of header after) (histories header after) lanes
+  all_lanes lanes still stand n lane found =
+      let same : history_of n header after ≡ did n = by (who == n) in rw same (stand n lane found)
+    where
+      by : (b : Bool) → cond b (does n) (did n) ≡ did n
+      by true = still n
+      by false = refl
+
+  -- At a line of companion `who` the lane of each other one stands for its own history of before.
+  pub own_lanes : (lanes : List Lane)
+      → ((n : ℕ) (lane : Lane) → stored lanes n ≡ Some lane → n ≢ who
+      → LaneStands n (events_of header after) (did n) lane)
+      → ((lane : Lane) → stored lanes who ≡ Some lane → LaneStands who (events_of header after) (does who) lane)
+      → LanesStand (events_of header after) (histories header after) lanes
+  own_lanes lanes others own n lane found = elim (eqb_tells n who) [
+    | inl same ↦
+        let now = own_line number t w who l verb in
+        let here = own lane (rw same.1 at found) in
+        rw same.1 (rw (history_now header now lines who refl) here)
+    | inr differs ↦
+        let now = own_line number t w who l verb in
+        rw (history_other header now lines n (λ same. differs.1 (sym same))) (others n lane found differs.1)
+  ]
+
+  -- where nothing happened at the television, one lane alone was touched
+  pub one_lane : (lanes : List Lane) (lane : Lane) → events_of header after ≡ events_of header lines → 1 ≤ who
+      → who ≤ length lanes → LanesStand (events_of header lines) (histories header lines) lanes
+      → LaneStands who (events_of header lines) (does who) lane
+      → LanesStand (events_of header after) (histories header after) (slice_set lanes (who - 1) lane)
+  one_lane lanes lane none first within stand here =
+      own_lanes (slice_set lanes (who - 1) lane)
+      (λ n other found differs.
+      rw none (stand n other (sym (set_others lanes who n lane first differs) ∙ found)))
+      (λ same found.
+      let is : lane ≡ same =
+      stored_same (slice_set lanes (who - 1) lane) who lane same (set_there lanes who lane first within) found in
+      rw none (rw is at here))
 
 -- ---- a request
 pub asked : (old : Kept) (lines : List Numbered) (number t w who l reading : ℕ) (lane : Lane)
@@ -182,11 +166,8 @@ ticket_same server header older reading asked follow greatest =
 
 -- `take` leaves ends that stand for one line more
 pub taken : (old : Kept) (lines : List Numbered) (number t w who l request reading asked asker : ℕ) (tv : Television)
-    (owners : List ℕ)
-    → EndsStand old lines → numbered request (requests lines) ≡ Some asked
-    → numbered request (askers lines) ≡ Some asker
-    → tv.tv.stage ≡ old.tv.tv.stage
-    → servers.StandsFor tv.tv.server
+    (owners : List ℕ) → EndsStand old lines → numbered request (requests lines) ≡ Some asked
+    → numbered request (askers lines) ≡ Some asker → tv.tv.stage ≡ old.tv.tv.stage → servers.StandsFor tv.tv.server
     (ticket_at old.header (tickets old.header lines) reading asked ∷ tickets old.header lines)
     → tv.takes.items ≡ old.tv.takes.items ++ Some (ticket_at old.header (tickets old.header lines) reading asked) ∷ []
     → owners ≡ old.taken_for ++ asker ∷ []

@@ -2,18 +2,14 @@
 use Rattle.std.proofs.Common.{◌≡◌, ◌≢◌, ℕ, ◌+◌, ◌-◌, ◌/◌, ◌%◌, ◌≤◌, arith, Bool, cond, List, [], ◌∷◌, ◌++◌, append-nil}
 use Rattle.std.proofs.Common.{length, refl, ap, sym, subst, ◌∙◌, inl, inr, ne_eqb}
 use Rattle.std.specs.Prelude.{Some, map, slice_set, Result, Ok, Err, OnOk}
-use Rattle.std.proofs.lemmas.Bool.Decides.{eqb_tells}
 use Rattle.css_num.specs.declared.protocol.Kind.TheVariants as kind
-use Rattle.css_sessions.specs.declared.session.Said.{Said}
-use Rattle.css_tv.specs.declared.event.TvOut.{TvOut}
 use Rattle.css_tv.specs.declared.event.TvOut.TheVariants as outs
-use Rattle.css_meaning.specs.Numbering.{stored}
-use Rattle.css_meaning.specs.Sessions.{peer_of}
 use Rattle.css_world.specs.declared.lane.Lane.{Lane}
 use Rattle.css_world.specs.declared.session.Phase.{Phase}
 use Rattle.css_world.specs.declared.session.Phase.TheVariants.{Unopened, Open, Over}
 use Rattle.css_world.specs.Flights.{Session, grown, with_news, news_of}
 use Rattle.css_world.specs.Lanes.{IsFor, TakesUp, AllTakeUp, KeepsAllButTexts}
+use Rattle.css_world.proofs.Names.{eqb_tells, Said, TvOut, stored, peer_of}
 use Rattle.css_world.proofs.News.{told-next}
 use Rattle.css_world.proofs.Numbers.{stored_within, stored_same, set_there, set_others, set_part, part_kept, count_kept}
 
@@ -33,8 +29,7 @@ untold session news none =
 
 -- before anything is told nothing is in flight
 pub none_yet : (lanes : List Lane) → AllTakeUp [] lanes lanes
-none_yet lanes who lane found =
-    (lane, found, record { cii = untold lane.cii [] refl; ts = untold lane.ts [] refl })
+none_yet lanes who lane found = (lane, found, record { cii = untold lane.cii [] refl; ts = untold lane.ts [] refl })
 
 -- ---- one output
 -- a text of another peer isn't told to this one
@@ -98,8 +93,7 @@ told_on xs out first before after so_far now who lane found =
 -- what isn't touched twice isn't touched
 pub kept_on : (first before after : List Lane) → KeepsAllButTexts first before → KeepsAllButTexts before after
     → KeepsAllButTexts first after
-kept_on first before after one two =
-    record { companions = two.companions ∙ one.companions }
+kept_on first before after one two = record { companions = two.companions ∙ one.companions }
 
 -- there are as many lanes
 pub as_many : (old new : List Lane) → KeepsAllButTexts old new → length new ≡ length old

@@ -2,16 +2,12 @@
 use Rattle.std.proofs.Common.{◌≡◌, ◌≢◌, ℕ, suc, ◌-◌, ◌<◌, ◌≤◌, arith, Bool, true, false, cond, List, [], ◌∷◌, ◌++◌}
 use Rattle.std.proofs.Common.{length, take, drop, refl, ap, sym, subst, ◌∙◌, ◌⊎◌, append_assoc, length-append}
 use Rattle.std.proofs.Common.{length-drop, eq-eqb, ne_eqb, Some, None, Ok, Err, reverse}
-use Rattle.std.proofs.lemmas.List.{reverse-reverse, reverse-append, take-append-drop}
-use Rattle.std.proofs.Math.Seq.{take-append_seam}
-use Rattle.css_meaning.specs.declared.fault.WorldFault.{WorldFault}
-use Rattle.css_meaning.specs.declared.fault.WorldFault.TheVariants.{Absent}
-use Rattle.css_meaning.specs.Numbering.{numbered}
-use Rattle.css_meaning.specs.Sessions.{in_flight, next_of}
 use Rattle.css_world.specs.declared.session.Phase.{Phase}
 use Rattle.css_world.specs.declared.session.Phase.TheVariants.{Open, Over}
 use Rattle.css_world.specs.Flights.{Session, opened_from, closed_from, grown, with_news, with_written, first_in}
 use Rattle.css_world.specs.Flights.{rest_in, phase_of, queue_of, SessionCarries}
+use Rattle.css_world.proofs.Names.{reverse-reverse, reverse-append, take-append-drop, take-append_seam, WorldFault}
+use Rattle.css_world.proofs.Names.{Absent, numbered, in_flight, next_of}
 
 -- ---- numbers
 -- where items are numbered from 1, the number of an item is one more than how many came before it
@@ -122,14 +118,12 @@ opened-err phase live opened old fault is err = grind (arith, is, err)
 
 -- a session that closes is open
 pub closed-ok : (phase : Phase) (live opened : Bool) (new : Session) → phase ≡ phase_of live opened
-    → closed_from phase ≡ Ok new
-    → (live ≡ true) × (new ≡ record { phase = Over; down = []; up = [] })
+    → closed_from phase ≡ Ok new → (live ≡ true) × (new ≡ record { phase = Over; down = []; up = [] })
 closed-ok phase live opened new is ok = grind (arith, is, ok)
 
 -- one that doesn't close isn't
 pub closed-err : (phase : Phase) (live opened : Bool) (fault : WorldFault) → phase ≡ phase_of live opened
-    → closed_from phase ≡ Err fault
-    → (live ≡ false) × (fault ≡ Absent)
+    → closed_from phase ≡ Err fault → (live ≡ false) × (fault ≡ Absent)
 closed-err phase live opened fault is err = grind (arith, is, err)
 
 -- whether it is open, by its phase

@@ -1,9 +1,7 @@
 -- What is made for each companion of a schedule, one after the other.
 use Rattle.std.proofs.Common.{◌≡◌, ◌<◌, ◌+◌, ℕ, suc, arith, refl, ap, sym, subst, ◌∙◌, inl, inr, List, [], ◌∷◌, ◌++◌}
 use Rattle.std.proofs.Common.{length, length-append, get_or, Some, slice_get}
-use Rattle.std.proofs.lemmas.Option.{slice_get_read}
-use Rattle.css_schedule.specs.declared.header.CompanionLine.{CompanionLine}
-use Rattle.css_meaning.specs.Numbering.{stored}
+use Rattle.css_world.proofs.Names.{slice_get_read, CompanionLine, stored}
 use Rattle.css_world.proofs.Numbers.{stored_within, stored_pushed}
 
 -- each item is one of its companion
@@ -11,8 +9,7 @@ abbrev pub Each : {A : Type 0} → (CompanionLine → A → Type 0) → List Com
 Each {A} Is companions items = (who : ℕ) (declared : CompanionLine) (item : A) → stored companions who ≡ Some declared
     → stored items who ≡ Some item → Is declared item
 
-pub none_made : {A : Type 0} (Is : CompanionLine → A → Type 0) (companions : List CompanionLine)
-    → Each Is companions []
+pub none_made : {A : Type 0} (Is : CompanionLine → A → Type 0) (companions : List CompanionLine) → Each Is companions []
 none_made {A} Is companions who declared item at found =
     let within = stored_within {A = A} [] who item found in absurd (omega (arith, within.0, within.1))
 

@@ -1,33 +1,25 @@
 -- A line that was carried out is one more that the world stands for.
 use Rattle.std.proofs.Common.{◌≡◌, ◌<◌, ℕ, Bool, true, false, cond, List, [], ◌∷◌, ◌++◌, append-nil, refl, ap, sym}
 use Rattle.std.proofs.Common.{subst, ◌∙◌, inl, inr, Option, Some, None, IfSome, length, Result, Ok, Err, OnOk, OnErr}
-use Rattle.std.specs.Option.{option_map, ForSome}
-use Rattle.std.specs.Result.{result_and, IsErrAnd}
+use Rattle.std.specs.Option.{option_map}
 use Rattle.css_num.specs.Gives.{GivesBy, LeavesBy}
 use Rattle.css_model.specs.Numbers.{precision_ns}
 use Rattle.css_moments.specs.Drifts.{Shown, last_shown}
 use Rattle.css_moments.specs.Standing as drifts
 use Rattle.css_moments.specs.declared.kept.Last.{Last}
-use Rattle.css_schedule.specs.Ranges.{IsLine, IsSecond}
-use Rattle.css_schedule.specs.declared.header.Header.{Header}
-use Rattle.css_schedule.specs.declared.line.Line.{Line}
-use Rattle.css_schedule.specs.declared.line.Verb.{Verb}
-use Rattle.css_meaning.specs.declared.fault.WorldFault.{WorldFault}
-use Rattle.css_meaning.specs.declared.fault.WorldFault.TheVariants.{Absent, Memory}
 use Rattle.css_meaning.specs.Clocks.{told_by, shown_at, has_woken, last_reading, reading_verdict}
-use Rattle.css_meaning.specs.Happened.{Numbered, events_of}
-use Rattle.css_meaning.specs.Accepted.{IsNext}
-use Rattle.css_meaning.specs.Verdicts.{tv_seen, seen_of_tv, seen_of, local_of, tv_reading, own_reading, reading_tested}
-use Rattle.css_meaning.specs.Verdicts.{tested, can_happen, event_at, played, printed_for, carried_out, line_meant}
+use Rattle.css_meaning.specs.Verdicts.{local_of}
 use Rattle.css_meaning.proofs.Accepting.{next_own}
-use Rattle.css_meaning.proofs.Lawful.{order_by}
 use Rattle.css_meaning.proofs.Truth.{accepted_lines_are_true}
-use Rattle.css_meaning.proofs.Worlds.{second_ok}
 use Rattle.css_world.specs.declared.both.Ends.{Ends}
 use Rattle.css_world.specs.declared.clocks.Clocks.{Clocks}
 use Rattle.css_world.specs.Standing.{World, Kept, EndsStand, IsReady, StandsFor, carried, CarriesOut, PrintsFor, Prints}
 use Rattle.css_world.specs.Standing.{ShowsBy, ShownTo, ReadsBy, ReadTo, AreNext, MayTake, Means, GoesOn, appended}
 use Rattle.css_world.specs.Standing.{TellsTruth}
+use Rattle.css_world.proofs.Names.{ForSome, result_and, IsErrAnd, IsLine, IsSecond, Header, Line, Verb, WorldFault}
+use Rattle.css_world.proofs.Names.{Absent, Memory, Numbered, events_of, IsNext, tv_seen, seen_of_tv, seen_of}
+use Rattle.css_world.proofs.Names.{tv_reading, own_reading, reading_tested, tested, can_happen, event_at, played}
+use Rattle.css_world.proofs.Names.{printed_for, carried_out, line_meant, order_by, second_ok}
 use Rattle.css_world.proofs.Owning.{are_on}
 
 -- ---- what is answered
@@ -236,13 +228,7 @@ module _ {header : Header} {old shown read : Clocks} {ends new : Ends} {before a
         clocks = steps.read_to header (now ∷ lines) lines (steps.shown_to header lines stands.clocks);
         ready = record {
           declared = stands.ready.declared;
-          accepted = (
-            steps.range,
-            steps.of,
-            next,
-            (ok.0, meant lines steps stands ∙ ok.1),
-            stands.ready.accepted,
-          );
+          accepted = (steps.range, steps.of, next, (ok.0, meant lines steps stands ∙ ok.1), stands.ready.accepted);
           are = done.are;
           ends = done.ends;
         };
@@ -250,8 +236,7 @@ module _ {header : Header} {old shown read : Clocks} {ends new : Ends} {before a
   line_stands (Err fault) steps lines stands next = tt
 
   -- and what is printed for it is true
-  pub line_true : (result : Result (Unit {0}) WorldFault)
-      → Steps header old shown read ends new before after result now
+  pub line_true : (result : Result (Unit {0}) WorldFault) → Steps header old shown read ends new before after result now
       → TellsTruth (world_as header old ends) result now
   line_true (Ok x) steps lines stands next =
       accepted_lines_are_true header lines now stands.ready.declared

@@ -1,3 +1,4 @@
+pub mod Names
 pub mod Storing
 pub mod Numbers
 pub mod Flights

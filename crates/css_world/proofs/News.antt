@@ -1,25 +1,21 @@
 -- What a television tells by an event is in flight, and is what its sessions were to be told by it.
 use Rattle.std.proofs.Common.{◌≡◌, ℕ, List, [], ◌∷◌, ◌++◌, refl, sym, ap, ap₂, ◌∙◌, append_assoc, filter_map, subst}
 use Rattle.std.proofs.Common.{Result, Ok, Err, filter, map, reverse}
-use Rattle.std.proofs.lemmas.List.{map-append}
 use Rattle.std.proofs.lemmas.List.Elements.{filter-append, filter_map-append}
 use Rattle.css_player.specs.Player.{Player}
 use Rattle.css_player.specs.Events.{player_of}
-use Rattle.css_sessions.specs.declared.session.Said.{Said}
 use Rattle.css_sessions.specs.Kept.{Event as SessionsCall, Kept}
 use Rattle.css_sessions.specs.Told.{IsLawful, said_to, texts_of, sessions_of}
 use Rattle.css_tv.proofs.More.{said_in, texts_all}
 use Rattle.css_tv.specs.Outcomes.{Outcome, outcome, outcome_at, said_after, outs as outcome_outs}
 use Rattle.css_tv.specs.Stages.{Stage}
 use Rattle.css_tv.specs.Standing as tvs
-use Rattle.css_tv.specs.Standing.{Calls, calls_of, with_outcome, said_by}
-use Rattle.css_tv.specs.declared.event.TvEvent.{TvEvent}
-use Rattle.css_tv.specs.declared.event.TvOut.{TvOut}
 use Rattle.css_tv.specs.declared.fault.TvFault.{TvFault}
-use Rattle.css_meaning.specs.Sessions.{addresses, told_to}
 use Rattle.css_world.specs.declared.session.Phase.{Phase}
 use Rattle.css_world.specs.declared.session.Phase.TheVariants.{Unopened, Open, Over}
 use Rattle.css_world.specs.Flights.{Session, grown, with_news, news_of}
+use Rattle.css_world.proofs.Names.{map-append, Said, Calls, calls_of, with_outcome, said_by, TvEvent, TvOut, addresses}
+use Rattle.css_world.proofs.Names.{told_to}
 
 -- ---- texts one after the other
 -- what is told to a peer by two lists
@@ -53,8 +49,7 @@ told-next peer xs out first before after is then_is =
 -- what an outcome tells a peer
 news-of-outcome : (peer : ℕ) (o : Outcome) (kept : Kept)
     → news_of peer (outcome_outs o kept) ≡ said_to peer (said_after o.called kept)
-news-of-outcome peer o kept =
-    ap (said_to peer) (said_in o kept [])
+news-of-outcome peer o kept = ap (said_to peer) (said_in o kept [])
 
 -- the outcome at a stage is that of the events it stands for
 pub outcome-same : (e : TvEvent) (stage : Stage) (events : List TvEvent) → tvs.StandsFor stage events
@@ -88,8 +83,7 @@ texts-after peer e old new events told (Ok o) is done stands after =
 -- an event that the television took in tells each peer what it was to be told
 pub told-news : (peer : ℕ) (e : TvEvent) (old new : Stage) (events : List TvEvent) (told : List TvOut)
     → tvs.IsAfterBy old new [] told (outcome_at e old) → tvs.StandsFor old events → tvs.StandsFor new (e ∷ events)
-    → old.addresses ≡ addresses
-    → told_to peer (e ∷ events) ≡ reverse (news_of peer told) ++ told_to peer events
+    → old.addresses ≡ addresses → told_to peer (e ∷ events) ≡ reverse (news_of peer told) ++ told_to peer events
 told-news peer e old new events told done stands after same =
     subst (λ a. tvs.texts_after a peer (e ∷ events) ≡ reverse (news_of peer told) ++ tvs.texts_after a peer events) same
     (texts-after peer e old new events told (outcome_at e old) refl done stands after)

@@ -1,11 +1,7 @@
 -- Items by number, the oldest first: what is written is there, and each other item is as before.
 use Rattle.std.proofs.Common.{◌≡◌, ◌≢◌, ℕ, zero, suc, ◌-◌, ◌<◌, ◌≤◌, arith, List, [], ◌∷◌, ◌++◌, length, refl, ap, sym}
 use Rattle.std.proofs.Common.{◌∙◌, ◌⊎◌, inl, inr, option_map, Option, Some, None, map, slice_get, slice_set, subst}
-use Rattle.std.proofs.lemmas.Bool.Decides.{eqb_tells}
-use Rattle.std.proofs.lemmas.List.{length-map}
-use Rattle.std.proofs.lemmas.Option.{slice_get-map, slice_get_within}
-use Rattle.css_meaning.specs.Numbering.{stored}
-use Rattle.css_meaning.proofs.Made.{mapped_some}
+use Rattle.css_world.proofs.Names.{eqb_tells, length-map, slice_get-map, slice_get_within, stored, mapped_some}
 use Rattle.css_world.proofs.Storing.{slice_get-set_other, slice_get-before, slice_get-pushed}
 
 -- ---- what is there
@@ -93,8 +89,7 @@ set_others items (suc place) (suc other) item first differs =
 
 -- what holds of each other item, and of what is written there, holds of each
 pub each_written : {A : Type 0} (P : ℕ → A → Type 0) (items : List A) (who : ℕ) (item : A) → 1 ≤ who
-    → who ≤ length items
-    → ((other : ℕ) (x : A) → other ≢ who → stored items other ≡ Some x → P other x) → P who item
+    → who ≤ length items → ((other : ℕ) (x : A) → other ≢ who → stored items other ≡ Some x → P other x) → P who item
     → (other : ℕ) (x : A) → stored (slice_set items (who - 1) item) other ≡ Some x → P other x
 each_written P items who item first within each new other x is = elim (eqb_tells other who) [
   | inl same ↦

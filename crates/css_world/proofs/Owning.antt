@@ -2,30 +2,19 @@
 use Rattle.std.proofs.Common.{◌≡◌, ◌≤◌, ◌<◌, ◌+◌, ◌-◌, ◌&&◌, ◌||◌, ℕ, arith, Bool, true, false, List, ◌∷◌, length}
 use Rattle.std.proofs.Common.{length-set, refl, ap, sym, subst, ◌∙◌, inl, inr}
 use Rattle.std.specs.Prelude.{Option, Some, None, Result, Ok, Err, IfSome, IfErr, slice_set, map, max, is_none}
-use Rattle.std.specs.Option.{option_map, option_or}
-use Rattle.std.specs.Result.{IsErrAnd}
-use Rattle.std.proofs.lemmas.Bool.Decides.{eqb_tells}
+use Rattle.std.specs.Option.{option_map}
 use Rattle.css_client.specs.Clients.{local_of}
 use Rattle.css_companion.specs.Standing as companions
-use Rattle.css_companion.specs.Standing.{Companion}
 use Rattle.css_schedule.specs.Headers.{max_companions}
-use Rattle.css_schedule.specs.Owners.{is_sleep}
-use Rattle.css_schedule.specs.declared.header.Header.{Header}
-use Rattle.css_schedule.specs.declared.line.Verb.{Verb}
-use Rattle.css_schedule.specs.declared.line.Verb.TheVariants.{Sleep}
 use Rattle.css_tv.specs.Stages.{Television as Tv}
-use Rattle.css_meaning.specs.declared.fault.WorldFault.{WorldFault}
 use Rattle.css_meaning.specs.declared.fault.WorldFault.TheVariants as faults
-use Rattle.css_meaning.specs.declared.reading.Reading.{Reading}
 use Rattle.css_meaning.specs.Clocks.{Seen, least_next, last_reading, has_woken}
-use Rattle.css_meaning.specs.Happened.{Numbered, server_of}
-use Rattle.css_meaning.specs.Numbering.{stored}
-use Rattle.css_meaning.specs.Verdicts.{own_reading, seen_of}
-use Rattle.css_meaning.proofs.Worlds.{seen_own, seen_other}
 use Rattle.css_world.specs.declared.both.Ends.{Ends}
 use Rattle.css_world.specs.declared.lane.Lane.{Lane}
 use Rattle.css_world.specs.Lanes.{IsLaneOf, KeepsAllButTexts, KeepsTv}
 use Rattle.css_world.specs.Standing.{Kept, EndsAre, DeclaresTheSame, IsReady, MayRead, MayTake, KeepsBoth, KeepsRefused}
+use Rattle.css_world.proofs.Names.{option_or, IsErrAnd, eqb_tells, Companion, is_sleep, Header, Verb, Sleep, WorldFault}
+use Rattle.css_world.proofs.Names.{Reading, Numbered, server_of, stored, own_reading, seen_of, seen_own, seen_other}
 use Rattle.css_world.proofs.Delivered.{as_many, kept_in_each}
 use Rattle.css_world.proofs.Numbers.{each_set, set_part, stored_within}
 
@@ -110,8 +99,7 @@ read_lane who lines now reading at takes is own setup floor after_sleep =
 -- and after a sleep
 pub slept_lane : {header : Header} {lane new : Lane} (who : ℕ) (lines : List Numbered) (now : Numbered)
     → now.line.who ≡ who → now.line.verb ≡ Sleep → IsLaneOf header who (seen_of who (now ∷ lines)) lane
-    → companions.own_of new.companion ≡ companions.own_of lane.companion
-    → new.companion.setup ≡ lane.companion.setup
+    → companions.own_of new.companion ≡ companions.own_of lane.companion → new.companion.setup ≡ lane.companion.setup
     → new.companion.client.floor ≡ max lane.companion.client.floor lane.companion.client.after_sleep
     → new.companion.client.after_sleep ≡ lane.companion.client.after_sleep
     → IsLaneOf header who (seen_of who (now ∷ lines)) new

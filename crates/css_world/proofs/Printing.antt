@@ -1,20 +1,16 @@
 -- What a companion tells at a line is what the lines before it tell; and what it may be asked.
 use Rattle.std.proofs.Common.{◌≡◌, ℕ, ℤ, arith, List, refl, ap, sym, ◌∙◌, Option, Some, None}
 use Rattle.css_num.specs.Spans.{Interval}
-use Rattle.css_model.specs.WallClock.{Local}
-use Rattle.css_model.specs.History.{History, accepted_answers}
 use Rattle.css_span.specs.WallSpans.{wall_span}
-use Rattle.css_tsmsg.specs.declared.setup.Setup.{Setup}
 use Rattle.css_companion.specs.Meanings.{report_after, assigned_after}
 use Rattle.css_companion.specs.Standing as companions
 use Rattle.css_companion.specs.declared.report.Report.{Report}
-use Rattle.css_meaning.specs.Happened.{Numbered, history_of}
-use Rattle.css_meaning.specs.Numbering.{stored}
-use Rattle.css_meaning.specs.Truth.{IsCompanionOf}
-use Rattle.css_meaning.specs.Verdicts.{local_of, span_at, report_at, assigned_at}
+use Rattle.css_meaning.specs.Verdicts.{local_of}
 use Rattle.css_world.specs.declared.lane.Lane.{Lane}
 use Rattle.css_world.specs.Asked.{MayBeAsked}
 use Rattle.css_world.specs.Standing.{World, Kept, IsReady, StandsFor}
+use Rattle.css_world.proofs.Names.{Local, History, accepted_answers, Setup, Numbered, history_of, stored, IsCompanionOf}
+use Rattle.css_world.proofs.Names.{span_at, report_at, assigned_at}
 use Rattle.css_world.proofs.Numbers.{stored_within, stored_there}
 
 -- the span that it tells of the wall clock

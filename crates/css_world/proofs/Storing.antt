@@ -1,9 +1,8 @@
 -- What is stored, the oldest first, of a list with the newest first.
 use Rattle.std.proofs.Common.{◌≡◌, ◌≢◌, ℕ, suc, zero, arith, List, [], ◌∷◌, ◌++◌, length, refl, ap, sym, subst, ◌∙◌}
 use Rattle.std.proofs.Common.{inl, inr, length-append, length-set, option_map, Option, Some, None, slice_get, slice_set}
-use Rattle.std.proofs.lemmas.Bool.Decides.{eqb_tells}
-use Rattle.css_meaning.specs.Numbering.{numbered, stored, spent}
 use Rattle.css_world.specs.Standing.{AreStored}
+use Rattle.css_world.proofs.Names.{eqb_tells, numbered, stored, spent}
 
 -- ---- options
 -- two functions that are equal map alike
@@ -84,8 +83,7 @@ pushed {A = A} {B = B} see items newest_first item seen are is = record { count 
 
 -- The item of a number is taken out, and is seen as none from then on.
 pub spent_stored : {A B : Type 0} (see after : ℕ → A → Option B) (items : List (Option B))
-    (newest_first : List A) (number : ℕ)
-    → ((item : A) → after number item ≡ None)
+    (newest_first : List A) (number : ℕ) → ((item : A) → after number item ≡ None)
     → ((other : ℕ) (item : A) → number ≢ other → after other item ≡ see other item)
     → AreStored see items newest_first → AreStored after (spent items number) newest_first
 spent_stored {A = A} {B = B} see after items newest_first number gone rest are = record {

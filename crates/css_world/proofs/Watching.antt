@@ -2,27 +2,19 @@
 use Rattle.std.proofs.Common.{◌≡◌, ◌≢◌, ◌-◌, ◌&&◌, ◌||◌, ℕ, Bool, true, false, cond, List, [], ◌∷◌, length, arith}
 use Rattle.std.proofs.Common.{length-set, ne_eqb, refl, ap, sym, subst, ◌∙◌, inl, inr, Option, Some, None, Result, Ok}
 use Rattle.std.proofs.Common.{Err, slice_set, is_none, option_map, eq-eqb}
-use Rattle.std.specs.Option.{option_or}
-use Rattle.std.specs.Result.{result_and, result_map_both}
-use Rattle.std.proofs.lemmas.Bool.Decides.{eqb_tells}
 use Rattle.css_model.specs.Numbers.{precision_ns}
 use Rattle.css_moments.specs.Drifts.{verdict}
 use Rattle.css_moments.specs.Standing as drifts
 use Rattle.css_moments.specs.Standing.{Drift}
-use Rattle.css_schedule.specs.Owners.{is_sleep}
-use Rattle.css_schedule.specs.declared.header.Header.{Header}
-use Rattle.css_meaning.specs.declared.fault.WorldFault.{WorldFault}
-use Rattle.css_meaning.specs.declared.reading.Reading.{Reading}
 use Rattle.css_meaning.specs.Clocks.{Seen, last_reading, has_woken, read_verdict, reading_verdict, shown_at, told_by}
 use Rattle.css_meaning.specs.Clocks.{told_with, broken_by, clock_verdict}
-use Rattle.css_meaning.specs.Happened.{Numbered}
-use Rattle.css_meaning.specs.Numbering.{stored}
-use Rattle.css_meaning.specs.Verdicts.{tv_seen, own_seen, tv_reading, own_reading, seen_of_tv, seen_of, local_of}
-use Rattle.css_meaning.specs.Verdicts.{own_shown_tested, shown_tested, reading_tested}
-use Rattle.css_meaning.proofs.Worlds.{seen_own, seen_other}
+use Rattle.css_meaning.specs.Verdicts.{local_of}
 use Rattle.css_world.specs.declared.clocks.Clocks.{Clocks}
 use Rattle.css_world.specs.declared.watch.Watch.{Watch}
 use Rattle.css_world.specs.Standing.{WatchStands, ClocksStand}
+use Rattle.css_world.proofs.Names.{option_or, result_and, result_map_both, eqb_tells, is_sleep, Header, WorldFault}
+use Rattle.css_world.proofs.Names.{Reading, Numbered, stored, tv_seen, own_seen, tv_reading, own_reading, seen_of_tv}
+use Rattle.css_world.proofs.Names.{seen_of, own_shown_tested, shown_tested, reading_tested, seen_own, seen_other}
 use Rattle.css_world.proofs.Numbers.{each_written, stored_within}
 
 -- ---- one watch
@@ -99,27 +91,17 @@ slept_watch {allowed} {near} {shown} {read} now is sleeps stands =
     }
 
 -- ---- all of them
--- those of other companions than the line's are not touched
-shown_apart : (header : Header) (lines : List Numbered) (now : Numbered) (read : List Seen) (n : ℕ) (watch : Watch)
-    → now.line.who ≢ n
-    → WatchStands (local_of n header).error (local_of n header).precision (seen_of n lines) read watch
-    → WatchStands (local_of n header).error (local_of n header).precision (seen_of n (now ∷ lines)) read watch
-shown_apart header lines now read n watch other = watch_as (sym (seen_other now lines n other)) refl
+-- the watch of companion `n` stands for what its clock showed and what was read of it
+abbrev OwnStands : Header → ℕ → List Seen → List Seen → Watch → Type 0
+OwnStands header n shown read watch =
+    WatchStands (local_of n header).error (local_of n header).precision shown read watch
 
-read_apart : (header : Header) (lines : List Numbered) (now : Numbered) (shown : List Seen) (n : ℕ) (watch : Watch)
-    → now.line.who ≢ n
-    → WatchStands (local_of n header).error (local_of n header).precision shown (seen_of n lines) watch
-    → WatchStands (local_of n header).error (local_of n header).precision shown (seen_of n (now ∷ lines)) watch
-read_apart header lines now shown n watch other = watch_as refl (sym (seen_other now lines n other))
-
--- a line is shown
+-- a line is shown; the watches of other companions than the line's are not touched
 pub shown_clocks : (header : Header) (old new : Clocks) (lines : List Numbered) (now : Numbered) (before after : Watch)
     → ClocksStand header old lines lines → stored old.own.items now.line.who ≡ Some before
     → WatchStands header.tv_error (precision_ns header.tv_precision) (seen_of_tv (now ∷ lines)) (seen_of_tv lines)
-    new.tv
-    → new.own.items ≡ slice_set old.own.items (now.line.who - 1) after
-    → WatchStands (local_of now.line.who header).error (local_of now.line.who header).precision
-    (own_seen now ∷ seen_of now.line.who lines) (seen_of now.line.who lines) after
+    new.tv → new.own.items ≡ slice_set old.own.items (now.line.who - 1) after
+    → OwnStands header now.line.who (own_seen now ∷ seen_of now.line.who lines) (seen_of now.line.who lines) after
     → ClocksStand header new (now ∷ lines) lines
 shown_clocks header old new lines now before after stand found tv same own =
     let who = now.line.who in
@@ -127,9 +109,9 @@ shown_clocks header old new lines now before after stand found tv same own =
       tv = tv;
       count = ap (λ (xs : List Watch). length xs) same ∙ length-set old.own.items (who - 1) after ∙ stand.count;
       own = λ n x at.
-          each_written (λ n x. WatchStands (local_of n header).error (local_of n header).precision
-          (seen_of n (now ∷ lines)) (seen_of n lines) x) old.own.items who after within.0 within.1
-          (λ n x differs there. shown_apart header lines now (seen_of n lines) n x (λ is. differs (sym is))
+          each_written (λ n x. OwnStands header n (seen_of n (now ∷ lines)) (seen_of n lines) x) old.own.items who after
+          within.0 within.1
+          (λ n x differs there. watch_as (sym (seen_other now lines n (λ is. differs (sym is)))) refl
           (stand.own n x there)) (watch_as (sym (seen_own now lines who refl)) refl own) n x
           (subst (λ (xs : List Watch). stored xs n ≡ Some x) same at);
     }
@@ -142,7 +124,7 @@ pub shown_tv : (header : Header) (old : Clocks) (lines : List Numbered) (now : N
 shown_tv header old lines now tv stand nobody shown = record {
   tv = shown;
   count = stand.count;
-  own = λ n x at. shown_apart header lines now (seen_of n lines) n x (apart n x at) (stand.own n x at);
+  own = λ n x at. watch_as (sym (seen_other now lines n (apart n x at))) refl (stand.own n x at);
 }
   where
     apart : (n : ℕ) (x : Watch) → stored old.own.items n ≡ Some x → now.line.who ≢ n
@@ -152,12 +134,10 @@ shown_tv header old lines now tv stand nobody shown = record {
 
 -- the line's companion reads its own
 pub read_own : (header : Header) (old new : Clocks) (shown lines : List Numbered) (now : Numbered)
-    (before after : Watch)
-    → ClocksStand header old shown lines → stored old.own.items now.line.who ≡ Some before
+    (before after : Watch) → ClocksStand header old shown lines → stored old.own.items now.line.who ≡ Some before
     → tv_reading now.line.verb ≡ None → new.tv ≡ old.tv
     → new.own.items ≡ slice_set old.own.items (now.line.who - 1) after
-    → WatchStands (local_of now.line.who header).error (local_of now.line.who header).precision
-    (seen_of now.line.who shown) (own_seen now ∷ seen_of now.line.who lines) after
+    → OwnStands header now.line.who (seen_of now.line.who shown) (own_seen now ∷ seen_of now.line.who lines) after
     → ClocksStand header new shown (now ∷ lines)
 read_own header old new shown lines now before after stand found none tv same own =
     let who = now.line.who in
@@ -165,9 +145,9 @@ read_own header old new shown lines now before after stand found none tv same ow
       tv = rw tv (quiet_watch (tv_seen now) none refl stand.tv);
       count = ap (λ (xs : List Watch). length xs) same ∙ length-set old.own.items (who - 1) after ∙ stand.count;
       own = λ n x at.
-          each_written (λ n x. WatchStands (local_of n header).error (local_of n header).precision
-          (seen_of n shown) (seen_of n (now ∷ lines)) x) old.own.items who after within.0 within.1
-          (λ n x differs there. read_apart header lines now (seen_of n shown) n x (λ is. differs (sym is))
+          each_written (λ n x. OwnStands header n (seen_of n shown) (seen_of n (now ∷ lines)) x) old.own.items who after
+          within.0 within.1
+          (λ n x differs there. watch_as refl (sym (seen_other now lines n (λ is. differs (sym is))))
           (stand.own n x there)) (watch_as refl (sym (seen_own now lines who refl)) own) n x
           (subst (λ (xs : List Watch). stored xs n ≡ Some x) same at);
     }
@@ -183,14 +163,11 @@ read_none header old shown lines now tv stand none awake read = record {
   own = λ n x at. by n x (stand.own n x at);
 }
   where
-    by : (n : ℕ) (x : Watch)
-        → WatchStands (local_of n header).error (local_of n header).precision (seen_of n shown) (seen_of n lines) x
-        → WatchStands (local_of n header).error (local_of n header).precision (seen_of n shown)
-        (seen_of n (now ∷ lines)) x
+    by : (n : ℕ) (x : Watch) → OwnStands header n (seen_of n shown) (seen_of n lines) x
+        → OwnStands header n (seen_of n shown) (seen_of n (now ∷ lines)) x
     by n x is = elim (eqb_tells now.line.who n) [
-      | inl same ↦
-          watch_as refl (sym (seen_own now lines n same.1)) (quiet_watch (own_seen now) none awake is)
-      | inr other ↦ read_apart header lines now (seen_of n shown) n x other.1 is
+      | inl same ↦ watch_as refl (sym (seen_own now lines n same.1)) (quiet_watch (own_seen now) none awake is)
+      | inr other ↦ watch_as refl (sym (seen_other now lines n other.1)) is
     ]
 
 -- ---- what is answered
@@ -207,8 +184,7 @@ clock_told {allowed} {near} {shown} now error result stands same is =
 pub wall_refused : (header : Header) (lines : List Numbered) (now : Numbered) (fault : WorldFault)
     → Err fault ≡ clock_verdict header.tv_error (seen_of_tv lines) (tv_seen now)
     → Err fault ≡ shown_tested header lines now
-wall_refused header lines now fault is =
-    ap (λ v. result_and v (own_shown_tested header lines now)) is
+wall_refused header lines now fault is = ap (λ v. result_and v (own_shown_tested header lines now)) is
 
 -- where it isn't, the companion's clock decides
 pub own_shown : (header : Header) (lines : List Numbered) (now : Numbered) (result : Result (Unit {0}) WorldFault)
@@ -263,8 +239,7 @@ tv_awake (now ∷ older) =
 
 -- what a watch answers of a reading
 watch_read : {allowed near : ℕ} {shown read : List Seen} {watch : Watch} (number at reading : ℕ)
-    → WatchStands allowed near shown read watch
-    → read_verdict number watch.precision at watch.woken watch.last reading
+    → WatchStands allowed near shown read watch → read_verdict number watch.precision at watch.woken watch.last reading
     ≡ read_verdict number near at (has_woken read) (last_reading read) reading
 watch_read {allowed} {near} {shown} {read} {watch} number at reading is =
     ap (λ p. read_verdict number p at watch.woken watch.last reading) is.precision

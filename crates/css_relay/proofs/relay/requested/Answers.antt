@@ -1,5 +1,5 @@
 -- The originate value is that of the request's bytes.
-use Rattle.css_relay.proofs.Originates.{originate_bytes}
+use Rattle.css_server.proofs.Originates.{originate_bytes}
 use Rattle.css_relay.proofs.relay.requested.Goals as goal
 
 pub returns-clause-originate : goal.returns-clause-originate

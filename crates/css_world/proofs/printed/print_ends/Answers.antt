@@ -1,8 +1,6 @@
 -- The pieces of the line, one after the other.
 use Rattle.std.proofs.Common.{◌≡◌, ℕ, ℤ, List, [], ◌∷◌, ◌++◌, append_assoc, to_z, of_z, codes, decimal}
-use Rattle.std.specs.Fmt.{signed_decimal}
-use Rattle.std.specs.Int.{w128}
-use Rattle.std.proofs.lemmas.Int.{to_z-of_z}
+use Rattle.css_world.proofs.Names.{signed_decimal, w128, to_z-of_z}
 use Rattle.css_world.proofs.Appending.{begins, on_ok, on_err, at_err}
 use Rattle.css_world.proofs.printed.print_ends.Goals as goal
 use Rattle.css_world.proofs.printed.print_ends.Given as given
@@ -16,14 +14,12 @@ after_two before name one two number lo a b = rw (b, a) (simp append_assoc)
 -- after the third one
 after_three : (before name one two third : List ℕ) (number : ℕ) (lo hi : ℤ)
     → one ≡ before ++ decimal number ++ name → two ≡ one ++ signed_decimal lo ++ codes " "
-    → third ≡ two ++ signed_decimal hi ++ codes " at "
-    → third ≡ before
+    → third ≡ two ++ signed_decimal hi ++ codes " at " → third ≡ before
     ++ (decimal number ++ name ++ signed_decimal lo ++ codes " " ++ signed_decimal hi ++ codes " at ")
 after_three before name one two third number lo hi a b d = rw (d, b, a) (simp append_assoc)
 
 -- and after the last one
-after_four : (before name third all : List ℕ) (number : ℕ) (lo hi : ℤ) (place : List ℕ)
-    → third ≡ before
+after_four : (before name third all : List ℕ) (number : ℕ) (lo hi : ℤ) (place : List ℕ) → third ≡ before
     ++ (decimal number ++ name ++ signed_decimal lo ++ codes " " ++ signed_decimal hi ++ codes " at ")
     → all ≡ third ++ place ++ 10 ∷ []
     → all ≡ before ++ (decimal number ++ name ++ signed_decimal lo ++ codes " " ++ signed_decimal hi

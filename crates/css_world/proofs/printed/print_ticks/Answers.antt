@@ -1,11 +1,7 @@
 -- The line of a report is a span's line.
 use Rattle.std.proofs.Common.{◌≡◌, ℕ, ℤ, List, ◌++◌, append_assoc, ap, ◌∙◌, to_z, of_z, Some, codes}
-use Rattle.std.specs.Fmt.{signed_decimal}
-use Rattle.std.specs.Int.{w128}
-use Rattle.std.proofs.lemmas.Int.{to_z-of_z}
-use Rattle.css_companion.specs.Printed.{line_of}
 use Rattle.css_companion.specs.declared.report.Report.TheVariants.{Ticks}
-use Rattle.css_meaning.specs.Printed.{ends_line}
+use Rattle.css_world.proofs.Names.{signed_decimal, w128, to_z-of_z, line_of, ends_line}
 use Rattle.css_world.proofs.Appending.{on_ok}
 use Rattle.css_world.proofs.printed.print_ticks.Goals as goal
 

@@ -3,10 +3,9 @@ use Rattle.std.proofs.Common.{List, [], sym, subst}
 use Rattle.css_num.specs.declared.protocol.Kind.TheVariants as kind
 use Rattle.css_tv.specs.Outcomes.{outcome_at}
 use Rattle.css_tv.specs.Standing as tvs
-use Rattle.css_tv.specs.declared.event.TvOut.{TvOut}
 use Rattle.css_tv.specs.declared.state.Addresses.{Addresses}
-use Rattle.css_meaning.specs.Sessions.{peer_of}
 use Rattle.css_world.specs.Flights.{news_of}
+use Rattle.css_world.proofs.Names.{TvOut, peer_of}
 use Rattle.css_world.proofs.News.{told-news}
 use Rattle.css_world.proofs.television.play.Goals as goal
 

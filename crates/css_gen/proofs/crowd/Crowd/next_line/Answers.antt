@@ -7,8 +7,7 @@ use Rattle.css_gen.proofs.Crowds.{turn-can, next-known}
 use Rattle.css_gen.proofs.crowd.Crowd.next_line.Goals as goal
 
 pub line-line-requires : goal.line-line-requires
-line-line-requires c =
-    subst (CanTurn c.args.self.now) (sym c.in_ok-turn.ensures) (turn-can c.args.self.now c.requires)
+line-line-requires c = subst (CanTurn c.args.self.now) (sym c.in_ok-turn.ensures) (turn-can c.args.self.now c.requires)
 
 pub remember-requires : goal.remember-requires
 remember-requires c =

@@ -9,8 +9,7 @@ use Rattle.css_gen.proofs.CrowdRanges.{next-range_of, next-second}
 use Rattle.css_gen.proofs.crowd.Crowd.next_text.Goals as goal
 
 pub line-line-requires : goal.line-line-requires
-line-line-requires c =
-    subst (CanTurn c.args.self.now) (sym c.in_ok-turn.ensures) (turn-can c.args.self.now c.requires)
+line-line-requires c = subst (CanTurn c.args.self.now) (sym c.in_ok-turn.ensures) (turn-can c.args.self.now c.requires)
 
 pub print_line-requires-clause-line : goal.print_line-requires-clause-line
 print_line-requires-clause-line c =

@@ -1,8 +1,6 @@
-use Rattle.std.proofs.Common.{◌+◌, ◌<◌, ◌==◌, arith, ap, sym, subst, ◌∙◌}
+use Rattle.std.proofs.Common.{◌+◌, ◌<◌, arith, ap, sym, subst, ◌∙◌}
 use Rattle.css_gen.specs.Generated.{Generator, line_for}
-use Rattle.css_gen.specs.Standing.{AreSome, Follows}
-use Rattle.css_gen.specs.declared.crowd.Crowd.{Crowd}
-use Rattle.css_gen.proofs.CrowdGoing.{companions-kept, goes_on, can_give, line_with-is}
+use Rattle.css_gen.proofs.CrowdGoing.{next-is, can_give, line_with-is}
 use Rattle.css_gen.proofs.generator.Generator.line.Goals as goal
 
 pub line_in-requires-clause-ready : goal.line_in-requires-clause-ready
@@ -15,14 +13,8 @@ line_in-requires-clause-ready c =
 
 pub invariant_of-self-2 : goal.invariant_of-self-2
 invariant_of-self-2 c =
-    let next = c.in_ok-line.ensures.crowd in
-    record {
-      few = c.self.invariant.few;
-      companions = subst AreSome (sym (ap (λ (x : Crowd). x.companions) next
-          ∙ companions-kept c.self.inside.crowd (c.self.inside.given + 1))) c.self.invariant.companions;
-      follows = subst (λ (x : Crowd). Follows (x.companions == 1) c.self.inside.seed (c.self.inside.given + 1) x)
-          (sym next) (goes_on c.self.inside.seed c.self.inside.given c.self.inside.crowd c.self.invariant.follows);
-    }
+    next-is c.self.inside.seed c.self.inside.lines c.self.inside.given c.self.inside.crowd _ c.self.invariant
+    c.in_ok-line.ensures.crowd
 
 pub returns-clause-line : goal.returns-clause-line
 returns-clause-line c =

@@ -1,8 +1,6 @@
-use Rattle.std.proofs.Common.{◌+◌, ◌==◌, arith, ap, sym, subst, ◌∙◌}
+use Rattle.std.proofs.Common.{arith, ap, ◌∙◌}
 use Rattle.css_gen.specs.Generated.{next_text}
-use Rattle.css_gen.specs.Standing.{AreSome, Follows}
-use Rattle.css_gen.specs.declared.crowd.Crowd.{Crowd}
-use Rattle.css_gen.proofs.CrowdGoing.{companions-kept, goes_on, can_give, text-next}
+use Rattle.css_gen.proofs.CrowdGoing.{next-is, can_give, text-next}
 use Rattle.css_gen.proofs.generator.Generator.next_line.Goals as goal
 
 pub text_in-requires-clause-ready : goal.text_in-requires-clause-ready
@@ -13,14 +11,8 @@ text_in-requires-clause-ready c =
 
 pub invariant_of-self-2 : goal.invariant_of-self-2
 invariant_of-self-2 c =
-    let next = c.in_ok-text.ensures.crowd in
-    record {
-      few = c.self.invariant.few;
-      companions = subst AreSome (sym (ap (λ (x : Crowd). x.companions) next
-          ∙ companions-kept c.self.inside.crowd (c.self.inside.given + 1))) c.self.invariant.companions;
-      follows = subst (λ (x : Crowd). Follows (x.companions == 1) c.self.inside.seed (c.self.inside.given + 1) x)
-          (sym next) (goes_on c.self.inside.seed c.self.inside.given c.self.inside.crowd c.self.invariant.follows);
-    }
+    next-is c.self.inside.seed c.self.inside.lines c.self.inside.given c.self.inside.crowd _ c.self.invariant
+    c.in_ok-text.ensures.crowd
 
 pub returns-clause-text : goal.returns-clause-text
 returns-clause-text c =

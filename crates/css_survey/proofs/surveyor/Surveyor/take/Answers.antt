@@ -1,7 +1,7 @@
 -- The survey stands for one line more.
 use Rattle.std.proofs.Common.{arith, ap, refl, sym}
-use Rattle.css_meaning.specs.Happened.{Numbered}
 use Rattle.css_survey.specs.declared.summary.Summary.{Summary}
+use Rattle.css_survey.proofs.Names.{Numbered}
 use Rattle.css_survey.proofs.Surveying.{few_counted, takes}
 use Rattle.css_survey.proofs.surveyor.Surveyor.take.Goals as goal
 

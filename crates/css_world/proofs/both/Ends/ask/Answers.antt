@@ -1,10 +1,8 @@
 -- The companion stands for its history with the request, which is stored.
 use Rattle.std.proofs.Common.{refl, ap, ◌∙◌, arith, List, ℕ, [], ◌∷◌, ◌++◌}
 use Rattle.css_companion.specs.Standing as companions
-use Rattle.css_schedule.specs.declared.line.Verb.TheVariants.{Ask}
-use Rattle.css_meaning.specs.Happened.{peer, history_of}
-use Rattle.css_meaning.specs.Verdicts.{own_reading}
 use Rattle.css_world.specs.Standing.{Kept, kept}
+use Rattle.css_world.proofs.Names.{Ask, peer, history_of, own_reading}
 use Rattle.css_world.proofs.Carrying.{at_line, asked}
 use Rattle.css_world.proofs.Verbs.{wants}
 use Rattle.css_world.proofs.Owning.{may_ask, read_lane, are_on, are_set, refused_memory}
@@ -50,8 +48,7 @@ returns-in_err-push-2-clause-carries c = λ header lines now own is ready may.
     c.from_residual-in_err-push-2.ensures.1
 
 pub returns-in_err-push-clause-refused : goal.returns-in_err-push-clause-refused
-returns-in_err-push-clause-refused c =
-    refused_memory _ _ c.from_residual.result c.from_residual.ensures.1
+returns-in_err-push-clause-refused c = refused_memory _ _ c.from_residual.result c.from_residual.ensures.1
 
 pub returns-in_err-push-2-clause-refused : goal.returns-in_err-push-2-clause-refused
 returns-in_err-push-2-clause-refused c =

@@ -1,14 +1,11 @@
 -- A text of the television comes.
 use Rattle.std.proofs.Common.{refl, sym, ap, subst, ◌∙◌, None}
-use Rattle.css_companion.specs.Standing.{Companion}
-use Rattle.css_companion.specs.Steps.{owed, IsEvent}
-use Rattle.css_schedule.specs.declared.line.Verb.TheVariants.{Bring}
-use Rattle.css_meaning.specs.Happened.{events_of, history_of}
 use Rattle.css_world.specs.Lanes.{session_at, with_owed}
 use Rattle.css_world.specs.Standing.{Kept, kept}
+use Rattle.css_world.proofs.Names.{Companion, owed, IsEvent, Bring}
 use Rattle.css_world.proofs.Carrying.{at_line}
 use Rattle.css_world.proofs.Verbs.{wants, refuses-absent, carried-when, can-bring, cannot-bring}
-use Rattle.css_world.proofs.AtSessions.{at_kind, owes-none, heard_event, brings}
+use Rattle.css_world.proofs.AtSessions.{stands_at, owes-none, heard_event, brings}
 use Rattle.css_world.proofs.Owning.{same_lane, are_on, are_set, both_kept, refused_memory}
 use Rattle.css_world.proofs.both.Ends.bring.Goals as goal
 
@@ -17,8 +14,7 @@ returns-in_default-clause-carries c = λ header lines now own is ready may.
     let lane = c.lane-lane.result.now in
     refuses-absent _ _ lines now c.args.who (Bring c.args.kind)
     (cannot-bring header lines c.args.who c.args.kind (session_at c.args.kind lane)
-    (at_kind c.args.kind c.args.who (events_of header lines) (history_of c.args.who header lines) lane
-    (ready.ends.lanes c.args.who lane c.lane-lane.ensures.value)) (sym c.next_down.ensures.text ∙ c.in_default.is))
+    (stands_at ready c.args.who c.args.kind c.lane-lane.ensures.value) (sym c.next_down.ensures.text ∙ c.in_default.is))
 
 pub returns-in_default-clause-refused : goal.returns-in_default-clause-refused
 returns-in_default-clause-refused c =
@@ -38,8 +34,7 @@ attend-requires-clause-taken c =
     let kind = c.args.kind in
     let found = c.lane-lane.ensures.value in
     let can = can-bring header lines who kind (session_at kind lane) c.in-Some.text
-    (at_kind kind who (events_of header lines) (history_of who header lines) lane (ready.ends.lanes who lane found))
-    (sym c.next_down.ensures.text ∙ c.in-Some.is) in (
+    (stands_at ready who kind found) (sym c.next_down.ensures.text ∙ c.in-Some.is) in (
       None,
       ap (owed c.next_down.new.self.companion) c.heard.ensures
           ∙ owes-none (kept header c.args.self.now) lines 0 0 0 who 0 kind lane c.next_down.new.self c.in-Some.text
@@ -62,8 +57,7 @@ returns-clause-carries c = λ header lines now own is ready may.
     let kind = c.args.kind in
     let found = c.lane-lane.ensures.value in
     let first = sym c.next_down.ensures.text ∙ c.in-Some.is in
-    let can = can-bring header lines who kind (session_at kind lane) c.in-Some.text
-    (at_kind kind who (events_of header lines) (history_of who header lines) lane (ready.ends.lanes who lane found))
+    let can = can-bring header lines who kind (session_at kind lane) c.in-Some.text (stands_at ready who kind found)
     first in
     let on = are_on old lines now who (Bring kind) own is may ready.are in
     record {

@@ -1,21 +1,14 @@
 -- At `wall` and `print` what they tell is printed, and at any other line nothing.
 use Rattle.std.proofs.Common.{◌≡◌, ◌<◌, ◌^◌, ℕ, ℤ, pos, negsuc, arith, refl, ap, subst, FitsSigned, w64, unsigned_abs}
 use Rattle.std.proofs.Common.{Some, IfSome}
-use Rattle.std.proofs.lemmas.Int.{to_z-of_z}
 use Rattle.css_tv.specs.declared.event.TvEvent.TheVariants as event
-use Rattle.css_schedule.specs.declared.line.Verb.TheVariants.{Ask, Land, Wall, Print, Programme, Timeline, Viewer}
-use Rattle.css_schedule.specs.Ranges.{IsVerb}
-use Rattle.css_companion.specs.Printed.{line_of}
-use Rattle.css_meaning.specs.Happened.{Numbered}
-use Rattle.css_meaning.specs.Printed.{wall_text}
-use Rattle.css_meaning.specs.Verdicts.{own_reading, span_at, report_at, assigned_at}
+use Rattle.css_world.proofs.Names.{to_z-of_z, Ask, Land, Wall, Print, Programme, Timeline, Viewer, IsVerb, line_of}
+use Rattle.css_world.proofs.Names.{Numbered, wall_text, own_reading, span_at, report_at, assigned_at, Line, Verb}
+use Rattle.css_world.proofs.Names.{is_own}
 use Rattle.css_world.proofs.Carrying.{at_line}
 use Rattle.css_world.proofs.AtTelevision.{walls, prints}
 use Rattle.css_world.specs.Standing.{Kept, kept, MayRead, MayTake, ReadyFor, ReadyAt}
 use Rattle.css_world.specs.declared.both.Ends.{Ends}
-use Rattle.css_schedule.specs.declared.line.Line.{Line}
-use Rattle.css_schedule.specs.declared.line.Verb.{Verb}
-use Rattle.css_schedule.specs.Owners.{is_own}
 use Rattle.css_world.proofs.Going.{prints_nothing, prints_line}
 use Rattle.css_world.proofs.both.Ends.carry_out.Goals as goal
 

@@ -1,19 +1,14 @@
 -- A session closes at both ends.
+use Rattle.css_world.proofs.Names.{owed, IsEvent, Close, WorldFault, events_of, peer_of, played}
 use Rattle.css_world.proofs.Verbs.{WhenAttended}
 use Rattle.std.specs.Prelude.{slice_set}
 use Rattle.std.proofs.Common.{◌≡◌, ◌-◌, refl, sym, ap, subst, ◌∙◌, Some, None, Ok, Result, ℕ}
 use Rattle.css_tv.specs.declared.event.TvEvent.TheVariants as event
-use Rattle.css_companion.specs.Steps.{owed, IsEvent}
-use Rattle.css_schedule.specs.declared.line.Verb.TheVariants.{Close}
-use Rattle.css_meaning.specs.declared.fault.WorldFault.{WorldFault}
-use Rattle.css_meaning.specs.Happened.{events_of, history_of}
-use Rattle.css_meaning.specs.Sessions.{peer_of}
-use Rattle.css_meaning.specs.Verdicts.{played}
 use Rattle.css_world.specs.Lanes.{session_at, with_owed}
 use Rattle.css_world.specs.Standing.{Kept, kept}
 use Rattle.css_world.proofs.Carrying.{at_line}
 use Rattle.css_world.proofs.Verbs.{wants, refuses-as, refuses-played, carried-when, can-close, cannot-close, WhenPlayed}
-use Rattle.css_world.proofs.AtSessions.{at_kind, owes-nothing, closed_event, closes_at}
+use Rattle.css_world.proofs.AtSessions.{stands_at, owes-nothing, closed_event, closes_at}
 use Rattle.css_world.proofs.Owning.{few_set, within_played, few_numbers, are_on, are_attended, both_kept, refused_kept}
 use Rattle.css_world.proofs.Owning.{refused_played, refused_memory}
 use Rattle.css_world.proofs.both.Ends.close.Goals as goal
@@ -24,8 +19,7 @@ returns-in_err-close-clause-carries c = λ header lines now own is ready may.
     refuses-as _ _ c.from_residual.result lines now c.args.who (Close c.args.kind) c.in_err-close.field-0.0
     c.from_residual.ensures.1
     (cannot-close header lines c.args.who c.args.kind (session_at c.args.kind lane) c.in_err-close.field-0.0
-    (at_kind c.args.kind c.args.who (events_of header lines) (history_of c.args.who header lines) lane
-    (ready.ends.lanes c.args.who lane c.lane-lane.ensures.value)) c.in_err-close.ensures.session.1)
+    (stands_at ready c.args.who c.args.kind c.lane-lane.ensures.value) c.in_err-close.ensures.session.1)
 
 pub returns-in_err-close-clause-refused : goal.returns-in_err-close-clause-refused
 returns-in_err-close-clause-refused c =
@@ -54,8 +48,7 @@ returns-in_err-play-clause-carries c = λ header lines now own is ready may.
     refuses-played _ _ c.from_residual-in_err-play.result lines now who (Close kind) (event.Closed c.peer_of.result)
     c.in_err-play.field-0.0 c.from_residual-in_err-play.ensures.1
     (can-close header lines who kind (session_at kind lane) (session_at kind c.close.new.self)
-    (at_kind kind who (events_of header lines) (history_of who header lines) lane
-    (ready.ends.lanes who lane c.lane-lane.ensures.value)) c.in_ok-close.ensures.session)
+    (stands_at ready who kind c.lane-lane.ensures.value) c.in_ok-close.ensures.session)
     (ap (λ p. Some (event.Closed p)) (sym c.peer_of.ensures))
     (c.in_err-play.ensures.answer (events_of header lines) ready.ends.stage)
 
@@ -95,8 +88,7 @@ returns-clause-carries c = λ header lines now own is ready may.
     let found = c.lane-lane.ensures.value in
     let ok : Result (Unit {0}) WorldFault = Ok tt in
     let can = can-close header lines who kind (session_at kind lane) (session_at kind c.close.new.self)
-    (at_kind kind who (events_of header lines) (history_of who header lines) lane (ready.ends.lanes who lane found))
-    c.in_ok-close.ensures.session in
+    (stands_at ready who kind found) c.in_ok-close.ensures.session in
     let plays = subst (λ (peer : ℕ). WhenPlayed (event.Closed peer) old.tv.tv c.play.new.tv
     (slice_set old.lanes (who - 1) c.close.new.self) c.play.new.lanes.list.items)
     c.peer_of.ensures c.in_ok-play.ensures.played in

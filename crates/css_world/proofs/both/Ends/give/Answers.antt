@@ -1,15 +1,10 @@
 -- The answer is the television's, and is stored.
 use Rattle.std.proofs.Common.{◌≡◌, refl, sym, ap, ◌∙◌, true, cond, not, List, ℕ}
 use Rattle.std.specs.Prelude.{◌&&◌, Some, None, is_some, Result, Ok, Err}
-use Rattle.std.specs.Option.{option_flatten}
 use Rattle.css_tv.specs.Stages.{Television as Tv}
-use Rattle.css_schedule.specs.declared.line.Verb.TheVariants.{Give}
-use Rattle.css_meaning.specs.declared.fault.WorldFault.{WorldFault}
-use Rattle.css_meaning.specs.declared.fault.WorldFault.TheVariants.{Absent}
-use Rattle.css_meaning.specs.Happened.{tickets, is_given}
-use Rattle.css_meaning.specs.Numbering.{numbered, stored}
 use Rattle.css_meaning.proofs.Tickets.{takes_count}
 use Rattle.css_world.specs.Standing.{Kept, kept, open_ticket}
+use Rattle.css_world.proofs.Names.{option_flatten, Give, WorldFault, Absent, tickets, is_given, numbered, stored}
 use Rattle.css_world.proofs.Carrying.{at_line}
 use Rattle.css_world.proofs.Answering.{given, answered_is, none_answered, not_open, answer_same}
 use Rattle.css_world.proofs.Numbers.{stored_none, mapped_none}
@@ -70,9 +65,7 @@ returns-clause-carries c = λ who header lines now own is ready may.
     }
 
 pub returns-in_default-give-clause-refused : goal.returns-in_default-give-clause-refused
-returns-in_default-give-clause-refused c =
-    record { tv = c.give.ensures.rest; companions = refl }
+returns-in_default-give-clause-refused c = record { tv = c.give.ensures.rest; companions = refl }
 
 pub returns-in_err-store_answer-clause-refused : goal.returns-in_err-store_answer-clause-refused
-returns-in_err-store_answer-clause-refused c =
-    refused_memory _ _ c.from_residual.result c.from_residual.ensures.1
+returns-in_err-store_answer-clause-refused c = refused_memory _ _ c.from_residual.result c.from_residual.ensures.1

@@ -1,7 +1,7 @@
 -- Nothing happens but at the television.
 use Rattle.std.proofs.Common.{refl, ◌∙◌}
-use Rattle.css_meaning.specs.Happened.{events_of}
 use Rattle.css_world.specs.Standing.{Kept, kept}
+use Rattle.css_world.proofs.Names.{events_of}
 use Rattle.css_world.proofs.Carrying.{at_line}
 use Rattle.css_world.proofs.Verbs.{carried-at-tv}
 use Rattle.css_world.proofs.AtTelevision.{happens}

@@ -1,13 +1,8 @@
 -- The companion stands for its history with the landing.
 use Rattle.std.proofs.Common.{◌≡◌, sym, ap, refl, ◌∙◌, arith, List, ℕ, true, cond, ◌&&◌, Some, Result, Ok, Err}
 use Rattle.css_companion.specs.Standing as companions
-use Rattle.css_schedule.specs.declared.line.Verb.TheVariants.{Land}
-use Rattle.css_meaning.specs.declared.fault.WorldFault.{WorldFault}
-use Rattle.css_meaning.specs.declared.fault.WorldFault.TheVariants.{Absent}
-use Rattle.css_meaning.specs.Happened.{peer, history_of}
-use Rattle.css_meaning.specs.Numbering.{stored}
-use Rattle.css_meaning.specs.Verdicts.{own_reading}
 use Rattle.css_world.specs.Standing.{Kept, kept}
+use Rattle.css_world.proofs.Names.{Land, WorldFault, Absent, peer, history_of, stored, own_reading}
 use Rattle.css_world.proofs.Carrying.{at_line}
 use Rattle.css_world.proofs.Answering.{landed, not_landing, not_for}
 use Rattle.css_world.proofs.Verbs.{refuses-absent, wants}
@@ -69,5 +64,4 @@ returns-in_err-land-clause-carries c = λ header lines now own is ready may.
     c.from_residual.ensures.1
 
 pub returns-in_err-land-clause-refused : goal.returns-in_err-land-clause-refused
-returns-in_err-land-clause-refused c =
-    refused_memory _ _ c.from_residual.result c.from_residual.ensures.1
+returns-in_err-land-clause-refused c = refused_memory _ _ c.from_residual.result c.from_residual.ensures.1

@@ -2,16 +2,12 @@
 use Rattle.std.specs.Prelude.{slice_set}
 use Rattle.std.proofs.Common.{◌≡◌, ◌-◌, refl, sym, ap, ◌∙◌, Some, Ok, Result, ℕ, subst}
 use Rattle.css_tv.specs.declared.event.TvEvent.TheVariants as event
-use Rattle.css_schedule.specs.declared.line.Verb.TheVariants.{Opening}
-use Rattle.css_meaning.specs.declared.fault.WorldFault.{WorldFault}
-use Rattle.css_meaning.specs.Happened.{events_of, history_of}
-use Rattle.css_meaning.specs.Sessions.{peer_of}
-use Rattle.css_meaning.specs.Verdicts.{played}
 use Rattle.css_world.specs.Lanes.{session_at}
 use Rattle.css_world.specs.Standing.{Kept, kept}
+use Rattle.css_world.proofs.Names.{Opening, WorldFault, events_of, peer_of, played}
 use Rattle.css_world.proofs.Carrying.{at_line}
 use Rattle.css_world.proofs.Verbs.{wants, refuses-as, refuses-played, carried-when, can-open, cannot-open, WhenPlayed}
-use Rattle.css_world.proofs.AtSessions.{at_kind, no-session, opens_at}
+use Rattle.css_world.proofs.AtSessions.{stands_at, no-session, opens_at}
 use Rattle.css_world.proofs.Owning.{few_set, within_played, few_numbers, are_on, are_attended, both_kept, refused_kept}
 use Rattle.css_world.proofs.Owning.{refused_played, refused_memory}
 use Rattle.css_world.proofs.both.Ends.open.Goals as goal
@@ -22,8 +18,7 @@ returns-in_err-open-clause-carries c = λ header lines now own is ready may.
     refuses-as _ _ c.from_residual.result lines now c.args.who (Opening c.args.kind) c.in_err-open.field-0.0
     c.from_residual.ensures.1
     (cannot-open header lines c.args.who c.args.kind (session_at c.args.kind lane) c.in_err-open.field-0.0
-    (at_kind c.args.kind c.args.who (events_of header lines) (history_of c.args.who header lines) lane
-    (ready.ends.lanes c.args.who lane c.lane-lane.ensures.value)) c.in_err-open.ensures.session.1)
+    (stands_at ready c.args.who c.args.kind c.lane-lane.ensures.value) c.in_err-open.ensures.session.1)
 
 pub returns-in_err-open-clause-refused : goal.returns-in_err-open-clause-refused
 returns-in_err-open-clause-refused c =
@@ -46,8 +41,7 @@ play-requires-clause-event c =
     let kind = c.args.kind in
     no-session (kept header c.args.self.now) lines 0 0 0 c.args.who 0 kind (session_at kind lane)
     (session_at kind c.open.new.self) c.peer_of.result c.requires.first ready.accepted ready.ends
-    (at_kind kind c.args.who (events_of header lines) (history_of c.args.who header lines) lane
-    (ready.ends.lanes c.args.who lane c.lane-lane.ensures.value)) c.in_ok-open.ensures.session
+    (stands_at ready c.args.who kind c.lane-lane.ensures.value) c.in_ok-open.ensures.session
     ready.are.addresses c.peer_of.ensures
 
 pub peer_of-requires-clause-few : goal.peer_of-requires-clause-few
@@ -65,8 +59,7 @@ returns-in_err-play-clause-carries c = λ header lines now own is ready may.
     refuses-played _ _ c.from_residual-in_err-play.result lines now who (Opening kind)
     (event.Opened c.peer_of.result kind) c.in_err-play.field-0.0 c.from_residual-in_err-play.ensures.1
     (can-open header lines who kind (session_at kind lane) (session_at kind c.open.new.self)
-    (at_kind kind who (events_of header lines) (history_of who header lines) lane
-    (ready.ends.lanes who lane c.lane-lane.ensures.value)) c.in_ok-open.ensures.session)
+    (stands_at ready who kind c.lane-lane.ensures.value) c.in_ok-open.ensures.session)
     (ap (λ p. Some (event.Opened p kind)) (sym c.peer_of.ensures))
     (c.in_err-play.ensures.answer (events_of header lines) ready.ends.stage)
 
@@ -94,8 +87,7 @@ returns-clause-carries c = λ header lines now own is ready may.
     let found = c.lane-lane.ensures.value in
     let ok : Result (Unit {0}) WorldFault = Ok tt in
     let can = can-open header lines who kind (session_at kind lane) (session_at kind c.open.new.self)
-    (at_kind kind who (events_of header lines) (history_of who header lines) lane (ready.ends.lanes who lane found))
-    c.in_ok-open.ensures.session in
+    (stands_at ready who kind found) c.in_ok-open.ensures.session in
     let plays = subst (λ (peer : ℕ). WhenPlayed (event.Opened peer kind) old.tv.tv c.play.new.tv
     (slice_set old.lanes (who - 1) c.open.new.self) c.play.new.lanes.list.items)
     c.peer_of.ensures c.in_ok-play.ensures.played in

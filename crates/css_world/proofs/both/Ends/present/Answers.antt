@@ -1,10 +1,9 @@
 -- The companion writes a presentation.
 use Rattle.std.proofs.Common.{◌≡◌, rules, refl, Some}
 use Rattle.css_tsmsg.specs.Presentations.{presentation_text}
-use Rattle.css_companion.specs.Steps.{window}
-use Rattle.css_schedule.specs.declared.line.Verb.TheVariants.{Present}
 use Rattle.css_world.specs.declared.session.Phase.TheVariants as phases
 use Rattle.css_world.specs.Standing.{Kept, kept}
+use Rattle.css_world.proofs.Names.{window, Present}
 use Rattle.css_world.proofs.Carrying.{at_line}
 use Rattle.css_world.proofs.Verbs.{refuses-absent, wants, carried-when, can-present, cannot-present}
 use Rattle.css_world.proofs.AtSessions.{presents}

@@ -1,8 +1,7 @@
 -- The report of the companion of the line is printed, and the position that it assigns.
 use Rattle.std.proofs.Common.{◌++◌, ap, ◌∙◌}
-use Rattle.css_companion.specs.Printed.{line_of}
-use Rattle.css_meaning.specs.Verdicts.{report_at}
 use Rattle.css_world.specs.Standing.{Kept, kept}
+use Rattle.css_world.proofs.Names.{line_of, report_at}
 use Rattle.css_world.proofs.Printing.{report_told, position_told}
 use Rattle.css_world.proofs.Owning.{may_ask}
 use Rattle.css_world.proofs.both.Ends.print.Goals as goal

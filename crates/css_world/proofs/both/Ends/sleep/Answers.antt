@@ -1,9 +1,8 @@
 -- The companion stands for its history with the sleep.
 use Rattle.std.proofs.Common.{refl, ap}
 use Rattle.css_companion.specs.Standing as companions
-use Rattle.css_schedule.specs.declared.line.Verb.TheVariants.{Sleep}
-use Rattle.css_meaning.specs.Happened.{history_of}
 use Rattle.css_world.specs.Standing.{Kept, kept}
+use Rattle.css_world.proofs.Names.{Sleep, history_of}
 use Rattle.css_world.proofs.Carrying.{at_line}
 use Rattle.css_world.proofs.AtTelevision.{sleeps}
 use Rattle.css_world.proofs.Owning.{slept_lane, are_on, are_set}

@@ -1,16 +1,10 @@
 -- The request that is stored is read back, and its ticket is stored.
 use Rattle.std.proofs.Common.{◌≡◌, ◌⊎◌, inl, inr, refl, sym, ap, ◌∙◌, true, false, cond, List, ℕ, [], ◌∷◌, ◌++◌}
 use Rattle.std.specs.Prelude.{◌&&◌, Some, None, is_some, Result, Ok, Err}
-use Rattle.css_model.specs.Wire.{stamp_of}
-use Rattle.css_server.specs.Tickets.{Ticket, ticket_for}
-use Rattle.css_schedule.specs.declared.line.Verb.TheVariants.{Take}
-use Rattle.css_meaning.specs.declared.fault.WorldFault.{WorldFault}
-use Rattle.css_meaning.specs.declared.fault.WorldFault.TheVariants.{Absent}
-use Rattle.css_meaning.specs.Happened.{Numbered, requests, askers, tickets, ticket_at}
-use Rattle.css_meaning.specs.Numbering.{numbered, stored}
-use Rattle.css_meaning.specs.Verdicts.{can_happen}
 use Rattle.css_meaning.proofs.Tickets.{askers_count}
 use Rattle.css_world.specs.Standing.{Kept, kept, EndsStand, request_bytes}
+use Rattle.css_world.proofs.Names.{stamp_of, Ticket, ticket_for, Take, WorldFault, Absent, Numbered, requests, askers}
+use Rattle.css_world.proofs.Names.{tickets, ticket_at, numbered, stored, can_happen}
 use Rattle.css_world.proofs.Carrying.{at_line, stored_request, taken, ticket_same}
 use Rattle.css_world.proofs.Answering.{owner_stored}
 use Rattle.css_world.proofs.Numbers.{stored_none, mapped_none}
@@ -96,8 +90,7 @@ returns-clause-carries c = λ who header lines now own is ready may.
     }
 
 pub returns-in_err-take-clause-refused : goal.returns-in_err-take-clause-refused
-returns-in_err-take-clause-refused c =
-    refused_memory _ _ c.from_residual.result c.from_residual.ensures.1
+returns-in_err-take-clause-refused c = refused_memory _ _ c.from_residual.result c.from_residual.ensures.1
 
 pub returns-in_err-push-clause-refused : goal.returns-in_err-push-clause-refused
 returns-in_err-push-clause-refused c =

@@ -1,12 +1,8 @@
 -- A text of the companion comes to the television.
+use Rattle.css_world.proofs.Names.{Up, WorldFault, events_of, played, ts_of}
 use Rattle.css_world.proofs.Verbs.{WhenPlayed}
 use Rattle.std.proofs.Common.{◌≡◌, ◌-◌, refl, sym, ap, ◌∙◌, Some, slice_set, Ok, Result, ℕ, subst}
 use Rattle.css_tv.specs.declared.event.TvEvent.TheVariants as event
-use Rattle.css_schedule.specs.declared.line.Verb.TheVariants.{Up}
-use Rattle.css_meaning.specs.declared.fault.WorldFault.{WorldFault}
-use Rattle.css_meaning.specs.Happened.{events_of}
-use Rattle.css_meaning.specs.Verdicts.{played}
-use Rattle.css_meaning.proofs.Peers.{ts_of}
 use Rattle.css_world.specs.Flights.{first_in}
 use Rattle.css_world.specs.Standing.{Kept, kept}
 use Rattle.css_world.proofs.Carrying.{at_line}

@@ -1,7 +1,7 @@
 -- What the companion of the line tells of the wall clock is printed.
 use Rattle.std.proofs.Common.{◌++◌, ap, ◌∙◌}
-use Rattle.css_meaning.specs.Printed.{wall_text}
 use Rattle.css_world.specs.Standing.{kept}
+use Rattle.css_world.proofs.Names.{wall_text}
 use Rattle.css_world.proofs.Printing.{span_told}
 use Rattle.css_world.proofs.Owning.{may_ask}
 use Rattle.css_world.proofs.both.Ends.wall.Goals as goal

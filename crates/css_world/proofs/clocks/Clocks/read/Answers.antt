@@ -1,10 +1,8 @@
 -- The reading at a line is tested and kept; at a sleep the companion's next reading has to be greater.
 use Rattle.std.proofs.Common.{true, refl, ap, rules}
-use Rattle.css_schedule.specs.Owners.{is_sleep}
-use Rattle.css_meaning.specs.Happened.{Numbered}
-use Rattle.css_meaning.specs.Verdicts.{tv_reading, own_reading, tv_seen, own_seen}
 use Rattle.css_world.specs.declared.clocks.Clocks.{Clocks}
 use Rattle.css_world.specs.Lending.{with_own}
+use Rattle.css_world.proofs.Names.{is_sleep, Numbered, tv_reading, own_reading, tv_seen, own_seen}
 use Rattle.css_world.proofs.Delivered.{on_both}
 use Rattle.css_world.proofs.Watching.{read_watch, quiet_watch, slept_watch, read_own, read_none, tv_read, own_read}
 use Rattle.css_world.proofs.clocks.Clocks.read.Goals as goal

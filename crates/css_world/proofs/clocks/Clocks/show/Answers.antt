@@ -1,10 +1,7 @@
 -- The line is shown to the wall clock, and to the clock of its companion.
 use Rattle.std.proofs.Common.{◌<◌, ◌-◌, ◌∷◌, length-set, refl, ap, sym, subst, ◌∙◌, Err}
-use Rattle.std.specs.Option.{ForSome}
-use Rattle.std.proofs.lemmas.Result.{err_from_is_err_and}
 use Rattle.css_meaning.specs.Clocks.{told_by, told_with}
-use Rattle.css_meaning.specs.Happened.{Numbered}
-use Rattle.css_meaning.specs.Verdicts.{tv_seen, own_seen, seen_of_tv, seen_of}
+use Rattle.css_world.proofs.Names.{ForSome, err_from_is_err_and, Numbered, tv_seen, own_seen, seen_of_tv, seen_of}
 use Rattle.css_world.proofs.Delivered.{ok_then}
 use Rattle.css_world.proofs.Watching.{shown_watch, shown_clocks, shown_tv, clock_told, wall_refused, own_shown}
 use Rattle.css_world.proofs.Watching.{none_shown}

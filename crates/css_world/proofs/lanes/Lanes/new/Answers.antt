@@ -1,8 +1,8 @@
 -- Each turn makes one lane more.
 use Rattle.std.proofs.Common.{◌≡◌, [], List, length, arith, sym, ap, subst, ◌∙◌}
-use Rattle.css_schedule.specs.Ranges.{IsCompanion}
 use Rattle.css_world.specs.declared.lane.Lane.{Lane}
 use Rattle.css_world.specs.Lanes.{IsFresh}
+use Rattle.css_world.proofs.Names.{IsCompanion}
 use Rattle.css_world.proofs.Fresh.{Each, none_made, one_made, counts_more}
 use Rattle.css_world.proofs.lanes.Lanes.new.Goals as goal
 

@@ -1,9 +1,8 @@
 -- The companion of a lane of the world.
 use Rattle.css_world.specs.Asked.{MayBeAsked}
-use Rattle.css_meaning.specs.Truth.{IsCompanionOf}
-use Rattle.css_meaning.specs.Happened.{Numbered}
 use Rattle.std.proofs.Common.{List, subst}
 use Rattle.css_world.specs.Standing.{World, StandsFor}
+use Rattle.css_world.proofs.Names.{IsCompanionOf, Numbered}
 use Rattle.css_world.proofs.Printing.{may_be_asked, none_asked}
 use Rattle.css_world.proofs.world.World.companion.Goals as goal
 

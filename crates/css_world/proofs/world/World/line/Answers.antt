@@ -1,11 +1,7 @@
 -- A line that was shown, read and carried out is one more.
 use Rattle.css_world.specs.Standing.{World, Means, TellsTruth}
 use Rattle.std.proofs.Common.{◌∷◌, ℕ, refl, sym, ap, ◌∙◌, Err, subst}
-use Rattle.std.specs.Result.{result_and}
-use Rattle.std.proofs.lemmas.Result.{err_from_is_err_and}
-use Rattle.css_schedule.specs.declared.line.Line.{Line}
-use Rattle.css_meaning.specs.Happened.{Numbered}
-use Rattle.css_meaning.specs.Verdicts.{reading_tested}
+use Rattle.css_world.proofs.Names.{result_and, err_from_is_err_and, Line, Numbered, reading_tested}
 use Rattle.css_world.proofs.Going.{Steps, world_as, lines_next, means_fault, not_ok, may_take, stood, is_second}
 use Rattle.css_world.proofs.Going.{line_answers, line_stands, line_true}
 use Rattle.css_world.proofs.world.World.line.Goals as goal
