@@ -10,7 +10,7 @@ ghost use Rattle.css_watch.specs.Progress as progress;
 ghost use Rattle.css_watch.specs.Telling as telling;
 ghost use Rattle.css_watch.specs.Telling.{text_of};
 ghost use Rattle.css_watch.specs.Watching.{Writes, Says, IsFresh, IsFreshOf, IsOf, Steps, Wakes, over_by};
-ghost use Rattle.css_watch.specs.Watching.{parted_by, parting_by, Accepts, IsPossibleAt};
+ghost use Rattle.css_watch.specs.Watching.{front_line, parted_by, parting_by, Accepts, IsPossibleAt};
 ghost use Rattle.css_model.specs.History.{History};
 ghost use Rattle.css_agree.specs.Disagreements.{disagree};
 ghost use Rattle.css_agree.specs.Keeping.{StandsFor};
@@ -51,6 +51,7 @@ pub(crate) struct Watching<'a, K: Sink> {
 
 /// The first line of these bytes, with its line feed, or all of them where there is none.
 fn first_line(bytes: &[u8]) -> &[u8]
+    ensures line { result.now ≡ front_line bytes.now }
     ensures front { result.now ≡ take (length result.now) bytes.now }
     ensures more { 0 < length bytes.now → 0 < length result.now }
 {
