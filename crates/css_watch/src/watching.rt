@@ -1,6 +1,6 @@
 //! The observer that tells what happens in a visit.
 ghost use Rattle.std.specs.Prelude.{◌≡◌, ◌≤◌, ◌<◌, ◌++◌, ℕ, List, [], ◌∷◌, Option, None, Some, IfOk, MatchOption};
-ghost use Rattle.std.specs.Prelude.{OnOk, OnErr, is_some, length, take};
+ghost use Rattle.std.specs.Prelude.{◌==◌, IfSome, OnOk, OnErr, is_some, length, position, take};
 ghost use Rattle.std.specs.Io.KnownBytes.{Appends};
 ghost use Rattle.css_outside.specs.Bytes.{AppendsPrefix};
 ghost use Rattle.css_outside.specs.Faults.{CountsCall};
@@ -49,13 +49,21 @@ pub(crate) struct Watching<'a, K: Sink> {
     pub(crate) parting: Option<Parting>,
 }
 
+/// Where the first line feed stands, if there is one.
+fn first_feed(bytes: &[u8]) -> Option<usize>
+    ensures first { result ≡ position (λ byte. byte == 10) bytes.now }
+    ensures inside { IfSome result (λ end. end < length bytes.now) }
+{
+    bytes.iter().position(|byte| *byte == b'\n')
+}
+
 /// The first line of these bytes, with its line feed, or all of them where there is none.
 fn first_line(bytes: &[u8]) -> &[u8]
     ensures line { result.now ≡ front_line bytes.now }
     ensures front { result.now ≡ take (length result.now) bytes.now }
     ensures more { 0 < length bytes.now → 0 < length result.now }
 {
-    match bytes.iter().position(|byte| *byte == b'\n') {
+    match first_feed(bytes) {
         None => bytes,
         Some(end) => &bytes[..=end],
     }
