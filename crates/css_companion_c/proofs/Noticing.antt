@@ -47,8 +47,8 @@ pub notices_by : (old new : Follower) (h : History) (peer reading : ℕ) (bytes 
     → contradicted old.companion h reading bytes ≡ told → own_of new.companion ≡ own_of old.companion
     → new.disagrees ≡ (old.disagrees || told) → new.asked ≡ old.asked
     → new.answered ≡ (old.answered || is_answer_to {Refusal = Landing} old.asked (Ok answer))
-    → Notices peer reading bytes old new h
-notices_by old new h peer reading bytes answer told tells adds said same noted asked answered = record {
+    → new.fault ≡ old.fault → Notices peer reading bytes old new h
+notices_by old new h peer reading bytes answer told tells adds said same noted asked answered refused = record {
   agrees = record {
     local = adds.local ∙ tells.agrees.local ∙ sym same;
     stands =
@@ -60,6 +60,7 @@ notices_by old new h peer reading bytes answer told tells adds said same noted a
   noted = noted ∙ ap (λ t. old.disagrees || t) (sym said);
   asked = asked;
   answered = answered ∙ ap (λ j. old.answered || is_answer_to old.asked j) (sym tells.judged);
+  refused = refused;
 }
 
 -- and where none is accepted
@@ -98,6 +99,7 @@ refused_by old new h peer reading bytes refusal e agrees same = record {
   answered =
       or_false old.answered ∙ ap (λ t. old.answered || t) (sym (none_answers old.asked refusal))
       ∙ ap (λ j. old.answered || is_answer_to old.asked j) (sym e);
+  refused = refl;
 }
 
 -- ---- answers that disagree

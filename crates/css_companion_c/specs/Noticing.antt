@@ -61,12 +61,14 @@ is_answer_to (Some asked) (Err refusal) = false
 is_answer_to None judged = false
 
 -- The answer that it tells was added, if it was accepted; a disagreement is noted, and an answer to the last request.
+-- What was refused last stays.
 pub record Notices (peer reading : ℕ) (bytes : List ℕ) (old new : Follower) (history : History) : Type 0 where
   pub agrees : Agrees new (Clock why.Land reading ∷ Took peer bytes ∷ history)
   pub noted : new.disagrees ≡ (old.disagrees || contradicted old.companion history reading bytes)
   pub asked : new.asked ≡ old.asked
   pub answered : new.answered
       ≡ (old.answered || is_answer_to old.asked (judged_of (own_of old.companion) history reading bytes))
+  pub refused : new.fault ≡ old.fault
 
 -- No world that keeps the declared errors makes all of these answers truthful, where the own clock shows the reading.
 abbrev pub AreNotAllTrue : Local → ℕ → Answers → Type 0

@@ -14,6 +14,7 @@ use Rattle.css_companion.specs.Standing.{Companion, StandsFor, own_of, timing_no
 use Rattle.css_companion.specs.declared.knowledge.Timing.{Timing}
 use Rattle.css_companion.specs.declared.report.Cause.{Cause}
 use Rattle.css_companion.specs.declared.report.Report.{Report}
+use Rattle.css_companion.specs.declared.report.Report.TheVariants as report
 use Rattle.css_companion_c.specs.Codes.{DONE, RANGE, EARLY, NO_ANSWER, TOO_WIDE, cause_code, report_code}
 use Rattle.css_companion_c.specs.declared.reading.Position.{Position}
 use Rattle.css_companion_c.specs.declared.snapshot.SnapshotAnswer.{SnapshotAnswer}
@@ -53,6 +54,20 @@ timing_in snapshot = record {
 abbrev pub shown : Snapshot → ℕ → Report
 shown snapshot reading =
     report_by (wall_span (own_in snapshot) reading (reverse (answers_in snapshot))) (Ok (timing_in snapshot))
+
+-- what a position goes by
+abbrev pub timing_at : Position → Timing
+timing_at position = record {
+  content = position.content;
+  wall = position.wall;
+  speed = position.speed;
+  rate = record { units_per_tick = position.units_per_tick; units_per_second = position.units_per_second };
+}
+
+-- the position has the ticks of that report, and what they go by
+pub record IsShownBy (snapshot : Snapshot) (reading : ℕ) (position : Position) : Type 0 where
+  pub ticks : shown snapshot reading ≡ report.Ticks position.lo position.hi
+  pub timing : timing_in snapshot ≡ timing_at position
 
 -- ---- what a snapshot is of
 -- all numbers are in range, and each answer is possible at each reading that may be handed
@@ -121,12 +136,3 @@ abbrev pub IsWhyNone : Snapshot → ℕ → ℕ → Type 0
 IsWhyNone snapshot reading code =
     ((code ≡ NO_ANSWER) × (span_in snapshot reading ≡ None) × HasAnswers snapshot)
     ⊎ ((code ≡ RANGE) × (IsInRange snapshot → snapshot.floor ≤ reading → ⊥))
-
--- what a position goes by
-abbrev pub timing_at : Position → Timing
-timing_at position = record {
-  content = position.content;
-  wall = position.wall;
-  speed = position.speed;
-  rate = record { units_per_tick = position.units_per_tick; units_per_second = position.units_per_second };
-}

@@ -1,5 +1,5 @@
 //! A companion beside what its answers say together.
-ghost use Rattle.std.specs.Prelude.{◌≡◌, [], ◌∷◌};
+ghost use Rattle.std.specs.Prelude.{◌≡◌, None, [], ◌∷◌};
 ghost use Rattle.css_model.specs.History.{History, Slept};
 ghost use Rattle.css_companion.specs.Standing.{StandsFor, asleep};
 ghost use Rattle.css_companion_c.specs.Noticing.{Agrees, BeginsAnew};
@@ -42,6 +42,7 @@ impl Follower {
     pub(crate) fn new(alloc: Global, companion: Companion) -> Follower
         ensures companion { result.companion ≡ companion }
         ensures anew { BeginsAnew result [] }
+        ensures unrefused { result.fault ≡ None }
     {
         let agree = Agree::new(alloc, companion.local());
         Follower {
@@ -60,6 +61,7 @@ impl Follower {
         ensures stands { (history : History) → StandsFor self.old.companion history
             → StandsFor self.new.companion (Slept ∷ history) }
         ensures anew { (history : History) → Agrees self.old history → BeginsAnew self.new (Slept ∷ history) }
+        ensures refused { self.new.fault ≡ self.old.fault }
     {
         self.companion.slept();
         self.agree.forget();

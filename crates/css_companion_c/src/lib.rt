@@ -19,7 +19,7 @@ ghost use Rattle.css_companion_c.specs.Noticing.{Agrees, Asks, BeginsAnew, Notic
 ghost use Rattle.css_companion_c.specs.Noticing.{accepted, noticed_code};
 ghost use Rattle.css_companion_c.specs.Noticing.{IsAgreedCode, IsTheirs, IsTrueOfAll};
 ghost use Rattle.css_companion_c.specs.Promises.{Adds, IsFresh, HoldsTheWall, HoldsThePosition, GoesWith, IsTheWall};
-ghost use Rattle.css_companion_c.specs.Snapshots.{IsSnapshotOf, IsCodeOf, HasRanges, at_floor, copied};
+ghost use Rattle.css_companion_c.specs.Snapshots.{IsSnapshotOf, IsCodeOf, IsShownBy, HasRanges, at_floor, copied};
 ghost use Rattle.css_companion_c.specs.Texts.{Holds};
 ghost use Rattle.css_companion_c.specs.Until.{any_kept, IsNarrowUntil, IsWideAt, IsDue};
 ghost use Rattle.css_companion_c.specs.When.{IsShownWithin, IsNeverShown, IsLeast, LooksAt};
@@ -72,6 +72,7 @@ pub extern "C" fn css_companion_new(
     ensures age { result ≡ DONE → handle.new.age ≡ aged handle.old.age result }
     ensures fresh { result ≡ DONE → Of (behind handle.new) (IsFresh selector.now stem.now error precision) }
     ensures anew { result ≡ DONE → Has (behind handle.new) (λ new. BeginsAnew new []) }
+    ensures unrefused { result ≡ DONE → Has (behind handle.new) (λ new. new.fault ≡ None) }
 {
     match making::made(alloc, selector, stem, error, precision) {
         Ok(companion) => match Box::new(alloc, Follower::new(alloc, companion)) {
@@ -115,6 +116,8 @@ pub extern "C" fn css_companion_slept(alloc: Global, handle: &mut Handle) -> u32
         (Adds (λ _. Unit {0}) (λ history. Slept ∷ history)) }
     ensures anew { result ≡ DONE → Becomes (behind handle.old) (behind handle.new) (λ old new. (history : History)
         → Agrees old history → BeginsAnew new (Slept ∷ history)) }
+    ensures refused { result ≡ DONE → Becomes (behind handle.old) (behind handle.new) (λ old new.
+        new.fault ≡ old.fault) }
 {
     changes!(handle, alloc, |follower| {
         follower.slept();
@@ -419,6 +422,7 @@ pub extern "C" fn css_snapshot_position(
     ensures code { (companion : Companion) → IsSnapshotOf snapshot.now companion
         → answers.at_reading companion reading DONE ≡ DONE → (history : History) → StandsFor companion history
         → result ≡ answers.report_code (report_after (own_of companion) companion.setup.selector history reading) }
+    ensures shown { result ≡ DONE → IsShownBy snapshot.now reading position.new }
     ensures truth { result ≡ DONE → (companion : Companion) → IsSnapshotOf snapshot.now companion
         → HoldsThePosition reading position.new companion }
     ensures range { result ≡ DONE → HasRanges snapshot.now }

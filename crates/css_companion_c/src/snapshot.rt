@@ -13,7 +13,7 @@ ghost use Rattle.css_companion_c.specs.Codes.{DONE, RANGE, at_reading, if_agreei
 ghost use Rattle.css_companion_c.specs.Promises.{HoldsThePosition, GoesWith};
 ghost use Rattle.css_companion_c.specs.Snapshots.{IsSnapshotOf, IsInRange, IsWhyNone, copied, times_of, own_in};
 ghost use Rattle.css_companion_c.specs.Snapshots.{HasRanges, IsCodeOf, timing_in, timing_at, shown, at_floor};
-ghost use Rattle.css_companion_c.specs.Snapshots.{span_in};
+ghost use Rattle.css_companion_c.specs.Snapshots.{span_in, IsShownBy};
 
 use crate::codes;
 use crate::follower::Follower;
@@ -307,6 +307,7 @@ pub(crate) fn position(snapshot: &Snapshot, reading: u64, out: &mut Position) ->
     ensures code { (companion : Known) → IsSnapshotOf snapshot.now companion
         → at_reading companion reading DONE ≡ DONE → (history : History) → StandsFor companion history
         → result ≡ report_code (report_after (own_of companion) companion.setup.selector history reading) }
+    ensures shown { result ≡ DONE → IsShownBy snapshot.now reading out.new }
     ensures truth { result ≡ DONE → (companion : Known) → IsSnapshotOf snapshot.now companion
         → HoldsThePosition reading out.new companion }
     ensures range { result ≡ DONE → HasRanges snapshot.now }

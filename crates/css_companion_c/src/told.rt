@@ -11,7 +11,7 @@ ghost use Rattle.css_companion.specs.Steps as steps;
 ghost use Rattle.css_companion.specs.declared.event.CompanionEvent.TheVariants as event;
 ghost use Rattle.css_companion_c.specs.Codes as answers;
 ghost use Rattle.css_companion_c.specs.Codes.{DONE, CLOSED, NO_ROOM, ChangesNothing, GoesOn, Answers, aged};
-ghost use Rattle.css_companion_c.specs.Handles.{behind, Has, Of, Becomes, Between, KeepsAgreement};
+ghost use Rattle.css_companion_c.specs.Handles.{behind, Has, Of, Becomes, Between, KeepsAgreement, KeepsBeside};
 ghost use Rattle.css_companion_c.specs.Noticing.{refused_for, words_of};
 ghost use Rattle.css_companion_c.specs.Promises.{Adds};
 ghost use Rattle.css_companion_c.specs.Texts.{Holds, property_of, listed, TellsTimeline};
@@ -160,7 +160,7 @@ pub extern "C" fn css_companion_setup(
         (λ companion. answers.room_code (setup_text companion.setup) (length out.old))) result }
     ensures same { ChangesNothing result → behind handle.new ≡ behind handle.old }
     ensures age { handle.new.age ≡ aged handle.old.age result }
-    ensures agreement { KeepsAgreement (behind handle.old) (behind handle.new) }
+    ensures beside { KeepsBeside (behind handle.old) (behind handle.new) }
     ensures told { result ≡ DONE → Between (behind handle.old) (behind handle.new) (λ old new.
         new ≡ steps.stepped old event.TsOpened) }
     ensures text { result ≡ DONE → Of (behind handle.old) (λ companion.
@@ -183,7 +183,7 @@ pub extern "C" fn css_companion_control(alloc: Global, handle: &mut Handle, text
     ensures code { Answers (answers.heard (behind handle.old) text.now DONE) DONE result }
     ensures same { ChangesNothing result → behind handle.new ≡ behind handle.old }
     ensures age { handle.new.age ≡ aged handle.old.age result }
-    ensures agreement { KeepsAgreement (behind handle.old) (behind handle.new) }
+    ensures beside { KeepsBeside (behind handle.old) (behind handle.new) }
     ensures told { result ≡ DONE → Between (behind handle.old) (behind handle.new) (λ old new.
         new ≡ record old { control = Some (control_of text.now) }) }
     ensures stands { result ≡ DONE → Between (behind handle.old) (behind handle.new) (λ old new. (peer : ℕ)
@@ -202,7 +202,7 @@ pub extern "C" fn css_companion_ts_closed(alloc: Global, handle: &mut Handle) ->
     ensures code { result ≡ answers.if_open (behind handle.old) (λ _. DONE) }
     ensures same { result ≢ DONE → behind handle.new ≡ behind handle.old }
     ensures age { handle.new.age ≡ aged handle.old.age result }
-    ensures agreement { KeepsAgreement (behind handle.old) (behind handle.new) }
+    ensures beside { KeepsBeside (behind handle.old) (behind handle.new) }
     ensures told { result ≡ DONE → Between (behind handle.old) (behind handle.new) (λ old new.
         new ≡ steps.stepped old event.TsClosed) }
     ensures stands { result ≡ DONE → Between (behind handle.old) (behind handle.new) (λ old new. (entry : Entry)

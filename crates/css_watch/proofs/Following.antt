@@ -25,7 +25,8 @@ use Rattle.css_watch.specs.Progress.{fresh, with_visit}
 use Rattle.css_watch.specs.Telling.{Told, told_of, text_of}
 use Rattle.css_drive.specs.Visits.{Visit, why}
 use Rattle.css_watch.specs.Visits.{CountsNetFault, CountsWriteFault, Hangs, HoldsAll, IsFault, IsVisit, end_of}
-use Rattle.css_watch.specs.Visits.{EndsAtCause, end_line, end_text, Fails, IsFaultAfter, IsOlderPart, hang_ups_after}
+use Rattle.css_watch.specs.Visits.{AreCut, EndsAtCause, end_line, end_text, Fails, IsFaultAfter, IsOlderPart}
+use Rattle.css_watch.specs.Visits.{IsShorterPart, hang_ups_after}
 use Rattle.css_watch.specs.Visits.{by_reports, fault_of, unwritten, hang_ups, last_end, told_in, visit_text}
 use Rattle.css_watch.specs.declared.ending.Watched.{Watched}
 use Rattle.css_watch.specs.declared.ending.Watched.TheVariants as watched
@@ -126,14 +127,28 @@ visit_as plan begun history hung ended v = record {
 pub none_hung : (wanted : History) → IsOlderPart [] wanted
 none_hung wanted = record { newer = wanted; rest = append-nil wanted }
 
+-- not all of the hang-ups were made
+older_part : (entries wanted : History) → IsShorterPart entries wanted → IsOlderPart entries wanted
+older_part entries wanted h = record { newer = h.newest ∷ h.newer; rest = h.rest }
+
+shorter_part-more : (entries wanted more : History) → IsShorterPart entries wanted
+    → IsShorterPart entries (more ++ wanted)
+shorter_part-more entries wanted [] h = h
+shorter_part-more entries wanted (next ∷ more) h = record {
+  newest = next;
+  newer = more ++ h.newest ∷ h.newer;
+  rest = ap (λ x. next ∷ x)
+      (append_assoc more (h.newest ∷ h.newer) entries ∙ ap (λ x. more ++ x) h.rest);
+}
+
 -- a fault ends the watch, after what an observer saw
 fails : (told : Told) (visit : Visit) (parting : Option Parting) (progress : Progress) (result : Watched)
     → told.parting ≡ parting → progress ≡ told.progress → IsFaultAfter visit.ended parting result
-    → IsOlderPart visit.hung (hang_ups_after visit.ended parting progress) → Fails told visit result
+    → AreCut result visit.hung (hang_ups_after visit.ended parting progress) → Fails told visit result
 fails told visit parting progress result p q fault hangs =
     let F : Option Parting → Type 0 = λ x. IsFaultAfter visit.ended x result in
-    let H : Option Parting → Type 0 = λ x. IsOlderPart visit.hung (hang_ups_after visit.ended x progress) in
-    let G : Progress → Type 0 = λ x. IsOlderPart visit.hung (hang_ups_after visit.ended told.parting x) in
+    let H : Option Parting → Type 0 = λ x. AreCut result visit.hung (hang_ups_after visit.ended x progress) in
+    let G : Progress → Type 0 = λ x. AreCut result visit.hung (hang_ups_after visit.ended told.parting x) in
     record { fault = subst F (sym p) fault; hangs = subst G q (subst H (sym p) hangs) }
 
 -- where another visit is to follow any fault may come, and all open sessions are to be hung up
@@ -157,9 +172,9 @@ due_after (driven.Unreachable turns) parting progress result words e f c = absur
 fails_before : (told : Told) (visit : Visit) (parting : Option Parting) (progress : Progress)
     (held holds : Option (List ℕ)) (words : List ℕ) (result : Watched) → IsWhole told parting progress held holds
     → why visit.ended parting ≡ Some words → IsFault result → EndsAtCause told.parting visit.ended
-    → IsOlderPart visit.hung (hang_ups progress) → Fails told visit result
+    → AreCut result visit.hung (hang_ups progress) → Fails told visit result
 fails_before told visit parting progress held holds words result whole e fault at_cause hangs =
-    let P : History → Type 0 = λ x. IsOlderPart visit.hung x in
+    let P : History → Type 0 = λ x. AreCut result visit.hung x in
     let C : Option Parting → Type 0 = λ x. EndsAtCause x visit.ended in
     let due = due_after visit.ended parting progress result words e fault (subst C whole.parting_so at_cause) in
     fails told visit parting progress result whole.parting_so whole.progress_so due.0 (subst P due.1 hangs)
@@ -167,7 +182,7 @@ fails_before told visit parting progress held holds words result whole e fault a
 -- the run itself failed to write
 unwritten_fails : (told : Told) (history : History)
     → Fails told (record { history = history; hung = []; ended = driven.WriteFault }) watched.WriteFault
-unwritten_fails told history = record { fault = by told.parting; hangs = none_hung _ }
+unwritten_fails told history = record { fault = by told.parting; hangs = refl }
   where
     by : (o : Option Parting) → IsFaultAfter driven.WriteFault o watched.WriteFault
     by None = refl
@@ -401,7 +416,7 @@ ended_make plan begun start mid now history driven.Memory progress v told same s
 ended_make plan begun start mid now history (driven.NetFault failure) progress v told same s f w e =
     let P : List ℕ → Type 0 = λ x. Appends start.holds now.holds x in
     ends_fault plan begun start mid now history [] (driven.NetFault failure) (watched.NetFault failure) v told
-    (no_entries mid.told now.told same) (record { fault = refl; hangs = none_hung _ })
+    (no_entries mid.told now.told same) (record { fault = refl; hangs = inl (refl, refl) })
     (subst P (sym (unsaid plan begun history [] (driven.NetFault failure) refl)) s.wrote) f w
 ended_make plan begun start mid now history driven.Done progress v told same s f w e =
     ends_whole plan begun start mid now history [] driven.Done None progress _ v told
@@ -426,7 +441,7 @@ parted_fault : (plan : Plan) (begun : Begun) (start mid now : Stage) (history en
     → IsWhole (told_of plan (fresh (with_visit begun)) (noted plan.run history)) (Some why-so) progress start.holds
     now.holds
     → why driven.WriteFault (Some why-so) ≡ None → IsFault result → IsQuiet result
-    → IsOlderPart entries (hang_ups progress) → CountsNetFault start.faults now.faults result
+    → AreCut result entries (hang_ups progress) → CountsNetFault start.faults now.faults result
     → now.writes ≡ start.writes → Makes plan begun start now (visited.Over result)
 parted_fault plan begun start mid now history entries why-so progress (watched.NetFault failure) v told more whole e
     fault quiet h f w =
@@ -464,7 +479,7 @@ parted_make : (plan : Plan) (begun : Begun) (start mid now : Stage) (history : H
 parted_make plan begun start mid now history why-so progress result v told whole f w e leaves = by leaves.ends
   where
     by : (IsFault result × CountsNetFault mid.faults now.faults result × IsQuiet result
-        × IsOlderPart leaves.entries (hang_ups progress))
+        × AreCut result leaves.entries (hang_ups progress))
         ⊎ ((result ≡ end_of driven.WriteFault (Some why-so) progress.begun) × (now.faults ≡ mid.faults)
         × (leaves.entries ≡ hang_ups progress)) → Makes plan begun start now (visited.Over result)
     by (inl x) =
@@ -514,8 +529,12 @@ one_hung before now was is session peer result e told counted =
     by : (result : Result (Unit {0}) OutFault) → Tells before now result (λ _. HungUp peer ∷ [])
         → CountsCall was.faults is.faults result → Hangs before now was.faults is.faults (HungUp peer ∷ []) result
     by (Ok done) t c = record { entries = HungUp peer ∷ []; told = t; all = refl; faults = c }
-    by (Err cause) t c =
-        record { entries = []; told = no_entries before now t; all = none_hung (HungUp peer ∷ []); faults = c }
+    by (Err cause) t c = record {
+      entries = [];
+      told = no_entries before now t;
+      all = record { newest = HungUp peer; newer = []; rest = refl };
+      faults = c;
+    }
 
 -- the first one failed
 pub hangs_first : (before now : Option History) (was is : ℕ) (first second : History) (cause : OutFault)
@@ -523,10 +542,7 @@ pub hangs_first : (before now : Option History) (was is : ℕ) (first second : H
 hangs_first before now was is first second cause h = record {
   entries = h.entries;
   told = h.told;
-  all = record {
-    newer = second ++ h.all.newer;
-    rest = append_assoc second h.all.newer h.entries ∙ ap (λ x. second ++ x) h.all.rest;
-  };
+  all = shorter_part-more h.entries first second h.all;
   faults = h.faults;
 }
 
@@ -542,14 +558,15 @@ hangs_on a b c f m n first second result p q = record {
 }
   where
     all : (result : Result (Unit {0}) OutFault)
-        → MatchResult result (λ _. q.entries ≡ second) (λ _. IsOlderPart q.entries second)
+        → MatchResult result (λ _. q.entries ≡ second) (λ _. IsShorterPart q.entries second)
         → MatchResult result (λ _. q.entries ++ p.entries ≡ second ++ first)
-        (λ _. IsOlderPart (q.entries ++ p.entries) (second ++ first))
+        (λ _. IsShorterPart (q.entries ++ p.entries) (second ++ first))
     all (Ok done) e = ap (λ x. x ++ p.entries) e ∙ ap (λ x. second ++ x) p.all
     all (Err cause) e = record {
+      newest = e.newest;
       newer = e.newer;
-      rest = sym (append_assoc e.newer q.entries p.entries) ∙ ap (λ x. x ++ p.entries) e.rest
-          ∙ ap (λ x. second ++ x) p.all;
+      rest = ap (λ x. e.newest ∷ x) (sym (append_assoc e.newer q.entries p.entries))
+          ∙ ap (λ x. x ++ p.entries) e.rest ∙ ap (λ x. second ++ x) p.all;
     }
 
     counts : (result : Result (Unit {0}) OutFault) → m ≡ f → CountsCall m n result → CountsCall f n result
@@ -574,7 +591,7 @@ unwritten_breaks progress words start now cause {bytes} result is e w told same 
       fault = tt;
       entries = [];
       told = no_entries start.told now.told told;
-      hangs = none_hung _;
+      hangs = refl;
       faults = same;
       wrote = wrote;
       writes = counted;
@@ -624,7 +641,7 @@ unhung_breaks progress words start now cause {bytes} result is e w h =
       fault = tt;
       entries = h.entries;
       told = h.told;
-      hangs = h.all;
+      hangs = inr h.all;
       faults = counted;
       wrote = wrote;
       writes = w.1;
@@ -633,7 +650,7 @@ unhung_breaks progress words start now cause {bytes} result is e w h =
       fault = tt;
       entries = h.entries;
       told = h.told;
-      hangs = h.all;
+      hangs = older_part h.entries (hang_ups progress) h.all;
       faults = counted;
       wrote = whole_prefix start.holds now.holds _ wrote;
       writes = w.1;
@@ -649,9 +666,9 @@ leaves_fault progress end before now was is cause result so h =
   where
     by : (cause : OutFault) → CountsOutFault was is cause
         → IsFault (fault_of cause) × CountsNetFault was is (fault_of cause) × IsQuiet (fault_of cause)
-        × IsOlderPart h.entries (hang_ups progress)
-    by (fault.Failed failure) counted = (tt, counted, tt, h.all)
-    by fault.Memory counted = (tt, counted, tt, h.all)
+        × AreCut (fault_of cause) h.entries (hang_ups progress)
+    by (fault.Failed failure) counted = (tt, counted, tt, inr h.all)
+    by fault.Memory counted = (tt, counted, tt, older_part h.entries (hang_ups progress) h.all)
 
 -- nothing was begun, for want of memory
 pub unbegun : (plan : Plan) (begun : Begun) (start : Stage) → Makes plan begun start start (visited.Over watched.Memory)

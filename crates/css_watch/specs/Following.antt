@@ -14,7 +14,7 @@ use Rattle.css_watch.specs.Progress.{fresh, with_visit}
 use Rattle.css_watch.specs.Telling.{Told, told_of, text_of}
 use Rattle.css_drive.specs.Visits.{AreFollowed, IsFollowed, Visit, begun_after, entries_of}
 use Rattle.css_watch.specs.Visits.{IsVisit, IsLast, IsFault, HoldsAll, told_in, visit_text, hang_ups, visits_of}
-use Rattle.css_watch.specs.Visits.{IsOlderPart, end_line}
+use Rattle.css_watch.specs.Visits.{AreCut, end_line}
 use Rattle.css_watch.specs.Visits.{CountsDialFaults, CountsNetFault, CountsWriteFault, written}
 use Rattle.css_watch.specs.declared.ending.Watched.{Watched}
 use Rattle.css_watch.specs.declared.ending.Watched.TheVariants as watched
@@ -91,7 +91,7 @@ pub record BreaksOff (progress : Progress) (words : List ℕ) (start now : Stage
   pub fault : IsFault result
   pub entries : History
   pub told : now.told ≡ with_entries entries start.told
-  pub hangs : IsOlderPart entries (hang_ups progress)
+  pub hangs : AreCut result entries (hang_ups progress)
   pub faults : CountsNetFault start.faults now.faults result
   pub wrote : HoldsAll start.holds now.holds (line_text (end_line progress words)) result
   pub writes : CountsWriteFault start.writes now.writes result
@@ -106,7 +106,7 @@ pub record LeavesAll (progress : Progress) (end : Watched) (before now : Option 
   pub entries : History
   pub told : now ≡ with_entries entries before
   pub ends : (IsFault result × CountsNetFault was is result × IsQuiet result
-      × IsOlderPart entries (hang_ups progress))
+      × AreCut result entries (hang_ups progress))
       ⊎ ((result ≡ end) × (is ≡ was) × (entries ≡ hang_ups progress))
 
 -- They are hung up where the observer ended the last visit. A run that ended by itself left nothing to be done.

@@ -3,7 +3,7 @@ use Rattle.std.specs.Prelude.{◌≡◌, ◌≤◌, ◌⊎◌, ℕ, List, [], �
 use Rattle.std.specs.Prelude.{MatchResult}
 use Rattle.std.specs.Prelude.{if◌then◌else◌, ⊤}
 use Rattle.std.specs.Io.KnownBytes.{Appends}
-use Rattle.css_model.specs.History.{History}
+use Rattle.css_model.specs.History.{Entry, History}
 use Rattle.css_outside.specs.Bytes.{AppendsPrefix}
 use Rattle.css_outside.specs.Faults.{HasRisen, HasRisenOnce, CountsCall}
 use Rattle.css_outside.specs.Outsides.{with_entries}
@@ -65,12 +65,18 @@ pub record IsOlderPart (entries wanted : History) : Type 0 where
   pub newer : History
   pub rest : newer ++ entries ≡ wanted
 
+-- these entries are an older part of the wanted ones, without the newest of them
+pub record IsShorterPart (entries wanted : History) : Type 0 where
+  pub newest : Entry
+  pub newer : History
+  pub rest : newest ∷ (newer ++ entries) ≡ wanted
+
 -- Calls added these entries: all that were to be made, or those before the one that failed.
 pub record Hangs (before now : Option History) (was is : ℕ) (wanted : History) (result : Result (Unit {0}) OutFault)
     : Type 0 where
   pub entries : History
   pub told : now ≡ with_entries entries before
-  pub all : MatchResult result (λ _. entries ≡ wanted) (λ _. IsOlderPart entries wanted)
+  pub all : MatchResult result (λ _. entries ≡ wanted) (λ _. IsShorterPart entries wanted)
   pub faults : CountsCall was is result
 
 -- ---- visits
@@ -159,10 +165,18 @@ IsFaultAfter (driven.Moved property old new) parting result = IsFault result
 IsFaultAfter (driven.BadUrl property) parting result = IsFault result
 IsFaultAfter _ parting result = ⊥
 
+-- These hang-ups were made, of those that were due, where the watch ended by this fault: those before the one that
+-- failed. None is made after a write that failed, and none is due after a run that a fault ended.
+abbrev pub AreCut : Watched → History → History → Type 0
+AreCut watched.WriteFault entries wanted = entries ≡ []
+AreCut (watched.NetFault failure) entries wanted =
+    ((entries ≡ []) × (wanted ≡ [])) ⊎ IsShorterPart entries wanted
+AreCut _ entries wanted = IsOlderPart entries wanted
+
 -- A device failed, or memory ran out. Of the hang-ups that were due after the run an older part was made.
 pub record Fails (told : Told) (visit : Visit) (result : Watched) : Type 0 where
   pub fault : IsFaultAfter visit.ended told.parting result
-  pub hangs : IsOlderPart visit.hung (hang_ups_after visit.ended told.parting told.progress)
+  pub hangs : AreCut result visit.hung (hang_ups_after visit.ended told.parting told.progress)
 
 -- No other visit follows, and all hang-ups that were due after the run were made.
 pub record IsOver (told : Told) (visit : Visit) (result : Watched) : Type 0 where

@@ -1,6 +1,6 @@
 -- How the variables of a visit's observer stand for what it was told.
 use Rattle.std.specs.Prelude.{◌≡◌, ℕ, List, [], ◌∷◌, Bool, true, false, Option, Some, None, Result, Ok, Err, ⊤, pos}
-use Rattle.std.specs.Prelude.{if◌then◌else◌, int_lt, is_some}
+use Rattle.std.specs.Prelude.{◌+◌, ◌==◌, if◌then◌else◌, int_lt, is_some, position, take}
 use Rattle.std.specs.Io.KnownBytes.{Appends}
 use Rattle.css_model.specs.WallClock.{Answer, Local, scaled_width}
 use Rattle.css_client.specs.Landings.{with_judged}
@@ -33,6 +33,14 @@ AreFrom config (Happened from event ∷ older) = (from.config ≡ config) × Are
 AreFrom config (Reported from number report ∷ older) = (from.config ≡ config) × AreFrom config older
 
 -- ---- writes
+-- the first line of bytes, with its line feed, or all of them where there is none
+abbrev pub line_to : Option ℕ → List ℕ → List ℕ
+line_to None bytes = bytes
+line_to (Some end) bytes = take (end + 1) bytes
+
+abbrev pub front_line : List ℕ → List ℕ
+front_line bytes = line_to (position (λ byte. byte == 10) bytes) bytes
+
 -- these bytes were written, or a part of them where a write failed or memory ran out; the sink's faults are counted
 abbrev pub Writes : Option OutFault → Option (List ℕ) → Option (List ℕ) → ℕ → ℕ → List ℕ → Type 0
 Writes None held holds before now bytes = Appends held holds bytes × (now ≡ before)

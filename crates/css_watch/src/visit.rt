@@ -206,6 +206,7 @@ fn go_on<K: Sink, O: Outside>(
 }
 
 /// Hangs up the sessions that are open where the observer ended the last visit, and ends the watch so.
+#[tactic(auto, using(crate::proofs::Following::leaves_fault))]
 fn leave<O: Outside>(
     outside: &mut O,
     parting: &Option<Parting>,

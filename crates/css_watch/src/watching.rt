@@ -1,6 +1,6 @@
 //! The observer that tells what happens in a visit.
 ghost use Rattle.std.specs.Prelude.{◌≡◌, ◌≤◌, ◌<◌, ◌++◌, ℕ, List, [], ◌∷◌, Option, None, Some, IfOk, MatchOption};
-ghost use Rattle.std.specs.Prelude.{OnOk, OnErr, is_some, length, take};
+ghost use Rattle.std.specs.Prelude.{◌==◌, IfSome, OnOk, OnErr, is_some, length, position, take};
 ghost use Rattle.std.specs.Io.KnownBytes.{Appends};
 ghost use Rattle.css_outside.specs.Bytes.{AppendsPrefix};
 ghost use Rattle.css_outside.specs.Faults.{CountsCall};
@@ -10,7 +10,7 @@ ghost use Rattle.css_watch.specs.Progress as progress;
 ghost use Rattle.css_watch.specs.Telling as telling;
 ghost use Rattle.css_watch.specs.Telling.{text_of};
 ghost use Rattle.css_watch.specs.Watching.{Writes, Says, IsFresh, IsFreshOf, IsOf, Steps, Wakes, over_by};
-ghost use Rattle.css_watch.specs.Watching.{parted_by, parting_by, Accepts, IsPossibleAt};
+ghost use Rattle.css_watch.specs.Watching.{front_line, parted_by, parting_by, Accepts, IsPossibleAt};
 ghost use Rattle.css_model.specs.History.{History};
 ghost use Rattle.css_agree.specs.Disagreements.{disagree};
 ghost use Rattle.css_agree.specs.Keeping.{StandsFor};
@@ -49,12 +49,21 @@ pub(crate) struct Watching<'a, K: Sink> {
     pub(crate) parting: Option<Parting>,
 }
 
+/// Where the first line feed stands, if there is one.
+fn first_feed(bytes: &[u8]) -> Option<usize>
+    ensures first { result ≡ position (λ byte. byte == 10) bytes.now }
+    ensures inside { IfSome result (λ end. end < length bytes.now) }
+{
+    bytes.iter().position(|byte| *byte == b'\n')
+}
+
 /// The first line of these bytes, with its line feed, or all of them where there is none.
 fn first_line(bytes: &[u8]) -> &[u8]
+    ensures line { result.now ≡ front_line bytes.now }
     ensures front { result.now ≡ take (length result.now) bytes.now }
     ensures more { 0 < length bytes.now → 0 < length result.now }
 {
-    match bytes.iter().position(|byte| *byte == b'\n') {
+    match first_feed(bytes) {
         None => bytes,
         Some(end) => &bytes[..=end],
     }

@@ -23,7 +23,7 @@ returns-then-contradicts-clause-notices c on h peer tells =
     notices_by old _ h peer c.args.reading c.args.bytes.now c.args.answer c.contradicts.result tells c.in-Ok.ensures.ok
     told c.in-Ok-land.ensures.own
     (or_true old.disagrees ∙ ap (λ (b : Bool). old.disagrees || b) (sym c.if-contradicts.true)) refl
-    c.is_answered-answered.ensures
+    c.is_answered-answered.ensures refl
 
 pub returns-clause-code : goal.returns-clause-code
 returns-clause-code c h tells =
@@ -44,7 +44,7 @@ returns-clause-notices c on h peer tells =
     notices_by old _ h peer c.args.reading c.args.bytes.now c.args.answer c.contradicts.result tells c.in-Ok.ensures.ok
     told c.in-Ok-land.ensures.own
     (or_false old.disagrees ∙ ap (λ (b : Bool). old.disagrees || b) (sym c.if-contradicts.false)) refl
-    c.is_answered-answered.ensures
+    c.is_answered-answered.ensures refl
 
 pub returns-then-contradicts-clause-stands : goal.returns-then-contradicts-clause-stands
 returns-then-contradicts-clause-stands c = λ _ history peer known. c.in-Ok-land.ensures.stands _ history peer known

@@ -1,4 +1,4 @@
-use Rattle.std.proofs.Common.{arith, to_z, of_z}
+use Rattle.std.proofs.Common.{arith}
 use Rattle.std.specs.Prelude.{pos}
 use Rattle.std.proofs.lemmas.Int.{ints}
 use Rattle.css_companion_c.proofs.Narrow.{wide_iff}
