@@ -60,6 +60,8 @@ fn lesser_high(first: &Answer, second: &Answer, local: &Local, reading: u64) -> 
 }
 
 /// The better answer of the two at each end.
+// A call would copy both answers twice more.
+#[inline(always)]
 fn better(first: &Best, second: &Best, local: &Local, reading: u64) -> Best
     requires { reading < LIMIT }
     ensures { result ≡ bests.better_of local.now reading first.now second.now }

@@ -1,5 +1,5 @@
 -- An answer that has both ends has them in order.
-use Rattle.std.proofs.Common.{◌≡◌, ◌+◌, ◌-◌, ◌*◌, ℕ, ap₂, sym, subst, arith, rules}
+use Rattle.std.proofs.Common.{◌≡◌, ◌∙◌, ◌+◌, ◌-◌, ◌*◌, ℕ, ap, ap₂, sym, subst, arith, rules}
 use Rattle.std.specs.Prelude.{pos, ◌≤ℤ◌, ◌+ℤ◌, ◌-ℤ◌, ◌*ℤ◌}
 use Rattle.std.proofs.lemmas.Int.{ints}
 use mir.Syntax.{w128}
@@ -32,25 +32,11 @@ pub returns : goal.returns
 returns c = λ e.
     let own = c.args.local.now in
     let r = c.args.reading in
-    let low : Answer = record {
-      t1 = c.low.inside.t1;
-      t2 = c.low.inside.t2;
-      t3 = c.low.inside.t3;
-      t4 = c.low.inside.t4;
-      precision = c.low.inside.precision;
-      error = c.low.inside.error;
-    } in
-    let high : Answer = record {
-      t1 = c.high.inside.t1;
-      t2 = c.high.inside.t2;
-      t3 = c.high.inside.t3;
-      t4 = c.high.inside.t4;
-      precision = c.high.inside.precision;
-      error = c.high.inside.error;
-    } in
+    let precision : Answer → ℕ = λ a. a.precision in
+    let error : Answer → ℕ = λ a. a.error in
+    let width = ap₂ (λ (l h : Answer). scaled_width own (both_of l h) r) c.low.view_is c.high.view_is in
     let held : to_z w128 (of_z w128 c.scaled_width.result) ≡ c.scaled_width.result = search rules in
-    let width : c.scaled_width.result ≡ scaled_width own (both_of low high) r = c.scaled_width.ensures in
-    subst (λ (l : Answer). lo own l r ≤ℤ hi own c.args.high.now r) c.low.view_is
-    (subst (λ (h : Answer). lo own low r ≤ℤ hi own h r) c.high.view_is
-    (in_order own low high r c.requires.local c.if-low-high.false c.if-low-high-2.false
-    (omega (arith, ints, e, held, width))))
+    in_order own c.args.low.now c.args.high.now r c.requires.local
+    (sym (ap precision c.low.view_is) ∙ c.if-low-high.false ∙ ap precision c.high.view_is)
+    (sym (ap error c.low.view_is) ∙ c.if-low-high-2.false ∙ ap error c.high.view_is)
+    (omega (arith, ints, e, held, c.scaled_width.ensures, width))
