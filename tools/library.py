@@ -15,6 +15,7 @@ import argparse
 import os
 import re
 import shutil
+import struct
 import subprocess
 import sys
 import tempfile
@@ -39,6 +40,8 @@ ONE_EACH = """SECTIONS {
   /DISCARD/ : { *(.comment .llvm_addrsig) }
 }
 """
+# The calls and jumps of each machine, by its number in an object, and the bits that hold their distance.
+JUMPS = {62: ({4}, 0xffffffff, 0), 183: ({282, 283}, 0x3ffffff, 2)}
 # How ld.lld names each target.
 TARGETS = {"x86_64-unknown-linux-gnu": "elf_x86_64", "aarch64-unknown-linux-gnu": "aarch64linux"}
 
@@ -80,6 +83,34 @@ def proved(room, kind, target):
     return kept, prover.kit
 
 
+def settle(path):
+    """Writes calls and jumps within the code's one section into it. So a linker has no relocations for them, which are
+    a fifteenth of the archive."""
+    file = bytearray(path.read_bytes())
+    machine, table, count = (int.from_bytes(file[at:at + size], "little") for at, size in ((18, 2), (40, 8), (60, 2)))
+    sections = [[*struct.unpack_from("<IIQQQQIIQQ", file, table + 64 * number)] for number in range(count)]
+    code = next(number for number, section in enumerate(sections) if section[2] & 4)  # what is executed
+    told = next(section for section in sections if section[1] == 4 and section[7] == code)
+    (types, mask, shift), begun, kept = JUMPS[machine], sections[code][4], bytearray()
+    for at in range(told[4], told[4] + told[5], 24):
+        place, kind, symbol, addend = struct.unpack_from("<QIIq", file, at)
+        _, binding, seen, home, value, _ = struct.unpack_from("<IBBHQQ", file, sections[told[6]][4] + 24 * symbol)
+        if kind in types and home == code and (binding < 16 or seen == 2):  # local or hidden
+            word = int.from_bytes(file[begun + place:begun + place + 4], "little")
+            word = word & ~mask | (value + addend - place >> shift) & mask
+            file[begun + place:begun + place + 4] = word.to_bytes(4, "little")
+        else:
+            kept += file[at:at + 24]
+    gone = told[5] - len(kept)
+    file[told[4]:told[4] + told[5]] = kept
+    for number, section in enumerate(sections):
+        section[4] -= gone if section[4] > told[4] else 0
+        section[5] -= gone if section is told else 0
+        struct.pack_into("<IIQQQQIIQQ", file, table - gone + 64 * number, *section)
+    struct.pack_into("<Q", file, 40, table - gone)
+    path.write_bytes(file)
+
+
 class Linker:
     """The kit's own tools, for a target."""
 
@@ -105,6 +136,7 @@ class Linker:
         script.write_text(ONE_EACH)
         whole = self.linked(self.room / "css_companion.o", "-r", "-T", script, "--discard-all", "--whole-archive", code,
                             self.compiled(TOP / "tools" / "heap.c"))
+        settle(whole)
         made.parent.mkdir(parents=True, exist_ok=True)
         made.unlink(missing_ok=True)
         self.run("llvm-ar", "rcsD", made, whole)

@@ -11,10 +11,10 @@ use Rattle.css_span.specs.Frontiers.{Answers, IsPossible}
 use Rattle.css_agree.specs.declared.best.Best.{Best}
 use Rattle.css_agree.specs.Bests.{best_of}
 use Rattle.css_agree.specs.Agreements.{HasGreatestLow, HasLeastHigh}
-use Rattle.css_agree.specs.Keeping.{Kept, IsKept, OfBoth, StandsFor}
+use Rattle.css_agree.specs.Keeping.{Kept, IsKept, OfBoth}
 use Rattle.css_agree.proofs.Choices.{IsBeaten, best_of-beats, best_of-keeps, best_of-none, better-of_both}
 use Rattle.css_agree.proofs.Choices.{All-reversed, All-unreversed}
-use Rattle.css_agree.proofs.Standing.{Holds, IsMatched, both-later, kept-holds}
+use Rattle.css_agree.proofs.Standing.{Holds, IsMatched, both-later}
 
 -- rounding keeps the order
 pub lo-mono : (own : Local) (a b : Answer) (r : ℕ) → lower own a r ≤ℤ lower own b r → lo own a r ≤ℤ lo own b r

@@ -1,17 +1,18 @@
 -- What is told of answers, as a function of them, is what they say together.
-use Rattle.std.proofs.Common.{◌≡◌, ◌∙◌, ℕ, ℤ, ap, ap₂, refl, subst, sym, List, Bool}
+use Rattle.std.proofs.Common.{◌≡◌, ◌∙◌, ℕ, ℤ, ap, ap₂, refl, subst, sym, List, Bool, true, false}
 use Rattle.std.specs.Prelude.{◌≤ℤ◌, ◌<ℤ◌, if◌then◌else◌, Option, Some, None, reverse}
 use Rattle.css_num.specs.Spans.{Interval}
-use Rattle.css_model.specs.WallClock.{Local, IsLocal, lo, hi}
+use Rattle.css_model.specs.WallClock.{Answer, Local, IsLocal, lo, hi}
 use Rattle.css_span.specs.Frontiers.{Answers}
 use Rattle.css_agree.specs.declared.agreed.Agreed.{Agreed}
 use Rattle.css_agree.specs.declared.agreed.Agreed.TheVariants.{Within, Disagree}
 use Rattle.css_agree.specs.declared.best.Best.{Best}
 use Rattle.css_agree.specs.Agreements.{AgreesAt, TellsTruth}
 use Rattle.css_agree.specs.Bests.{best_of, bests_of}
+use Rattle.css_agree.specs.Disagreements.{disagree}
 use Rattle.css_agree.specs.Keeping.{Kept, StandsFor}
 use Rattle.css_agree.specs.Told.{agreed_of, told_by}
-use Rattle.css_agree.proofs.Disagreements.{less, not_less}
+use Rattle.css_agree.proofs.Disagreements.{is_disagreement, less, not_less, told}
 use Rattle.css_agree.proofs.Shared.{best-low, best-high, nothing-added}
 use Rattle.css_agree.proofs.Shown.{said, true_of}
 use Rattle.css_agree.proofs.Standing.{bests-hold}
@@ -60,3 +61,16 @@ pub told_true : (kept : Kept) (r : ℕ) (added : Answers) (agreed : Agreed) → 
 told_true kept r added agreed local stands is =
     true_of kept.local r added agreed (added-in_range kept added stands)
     (told_agrees kept.local r added agreed local is)
+
+-- whether the answers disagree, by the best of what is kept
+pub disagreement-found : (kept : Kept) (r : ℕ) (added : Answers) (found : Option Best) → IsLocal kept.local
+    → StandsFor kept added → best_of kept.local r (reverse kept.bests) ≡ found
+    → is_disagreement (told_by kept.local r found) ≡ disagree kept.local r added
+disagreement-found kept r added found local stands e =
+    told kept.local r added (told_by kept.local r found)
+    (told_agrees kept.local r added (told_by kept.local r found) local (agreed_is kept r added found stands e))
+
+pub apart-tells : (t : Bool) (low high : Answer) (span : Interval)
+    → is_disagreement (if t then Disagree low high else Within span) ≡ t
+apart-tells true low high span = refl
+apart-tells false low high span = refl

@@ -9,7 +9,7 @@ ghost use Rattle.css_agree.specs.Verdicts.{verdict};
 
 use crate::agreed::Agreed;
 use crate::best::{Best, Replaced, best_of_all, keep, take_back};
-use crate::ends::{highest, lowest};
+use crate::ends::{are_apart, highest, lowest};
 use crate::fault::AgreeFault;
 use css_model::LIMIT;
 use css_span::{Answer, Local, Span, scaled_width};
@@ -147,10 +147,9 @@ impl Agree {
         ensures value { (added : Answers) → StandsFor self.now added
             → result ≡ disagree self.now.local reading added }
     {
-        match self.at(reading) {
-            Agreed::Disagree { .. } => true,
-            Agreed::Nothing => false,
-            Agreed::Within(_) => false,
+        match best_of_all(&self.kept, &self.local, reading) {
+            None => false,
+            Some(best) => are_apart(&best.low, &best.high, &self.local, reading),
         }
     }
 

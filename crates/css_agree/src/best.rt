@@ -60,6 +60,8 @@ fn lesser_high(first: &Answer, second: &Answer, local: &Local, reading: u64) -> 
 }
 
 /// The better answer of the two at each end.
+// A call of this, or of `best_of_all`, would copy both answers once more.
+#[inline(always)]
 fn better(first: &Best, second: &Best, local: &Local, reading: u64) -> Best
     requires { reading < LIMIT }
     ensures { result ≡ bests.better_of local.now reading first.now second.now }
@@ -71,6 +73,7 @@ fn better(first: &Best, second: &Best, local: &Local, reading: u64) -> Best
 }
 
 /// The best at the reading of all that are kept, whatever errors they declare.
+#[inline(always)]
 pub(crate) fn best_of_all(kept: &[Best], local: &Local, reading: u64) -> Option<Best>
     requires { reading < LIMIT }
     ensures { result ≡ bests.best_of local.now reading (reverse kept.now) }

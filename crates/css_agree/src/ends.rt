@@ -1,9 +1,9 @@
-ghost use Rattle.std.specs.Prelude.{◌≡◌, ◌<◌, ◌^◌, ◌*ℤ◌, ◌-ℤ◌, pos, unsigned_abs};
+ghost use Rattle.std.specs.Prelude.{◌≡◌, ◌<◌, ◌^◌, ◌*ℤ◌, ◌-ℤ◌, ◌≤ℤ◌, pos, true, int_lt, unsigned_abs};
 ghost use Rattle.css_model.specs.WallClock as wall_clock;
 
 use css_model::LIMIT;
 use css_num::{ceil_div, floor_div};
-use css_span::{Answer, Local};
+use css_span::{Answer, Local, scaled_width};
 
 /// One whole, in the unit of the errors, 1/256 ppm.
 const WHOLE: u32 = 256_000_000;
@@ -31,6 +31,41 @@ pub(crate) fn highest(answer: &Answer, local: &Local, reading: u64) -> i128
         upper_end(answer, local, reading),
         i128::from(WHOLE - local.error),
     )
+}
+
+/// Whether the span of one answer begins above the upper end of another's.
+pub(crate) fn are_apart(low: &Answer, high: &Answer, local: &Local, reading: u64) -> bool
+    requires range { reading < LIMIT }
+    requires local { wall_clock.IsLocal local.now }
+    ensures { result
+        ≡ int_lt (wall_clock.hi local.now high.now reading) (wall_clock.lo local.now low.now reading) }
+{
+    if are_in_order(low, high, local, reading) {
+        return false;
+    }
+    highest(high, local, reading) < lowest(low, local, reading)
+}
+
+/// Whether the two ends are known to be in order without a division: by the width of an answer that has both. There is
+/// one where the two declare the same precision and error, as the answers of one television mostly do.
+fn are_in_order(low: &Answer, high: &Answer, local: &Local, reading: u64) -> bool
+    requires range { reading < LIMIT }
+    requires local { wall_clock.IsLocal local.now }
+    ensures { result ≡ true
+        → wall_clock.lo local.now low.now reading ≤ℤ wall_clock.hi local.now high.now reading }
+{
+    if low.precision != high.precision || low.error != high.error {
+        return false;
+    }
+    let both = Answer {
+        t1: high.t1,
+        t2: high.t2,
+        t3: low.t3,
+        t4: low.t4,
+        precision: high.precision,
+        error: high.error,
+    };
+    scaled_width(&both, local, reading) >= 0
 }
 
 /// The lower end of an answer's span before it is rounded, times `F + e`, where `e` is the companion's error and `F` is

@@ -1,24 +1,29 @@
--- What is told of the answers says whether they contradict each other.
-use Rattle.css_agree.specs.declared.agreed.Agreed.TheVariants.{Nothing, Within, Disagree}
-use Rattle.css_agree.proofs.Disagreements.{told}
+-- Whether the best at each end are apart says whether the answers contradict each other.
+use Rattle.std.proofs.Common.{◌∙◌, ap, sym, subst}
+use Rattle.std.specs.Prelude.{None, Some, int_lt}
+use Rattle.css_model.specs.WallClock.{IsLocal, lo, hi}
+use Rattle.css_agree.specs.Keeping.{Kept}
+use Rattle.css_agree.proofs.Shared.{found-is}
+use Rattle.css_agree.proofs.Told.{apart-tells, disagreement-found}
 use Rattle.css_agree.proofs.agree.Agree.contradicts.Goals as goal
 
-pub returns-in-Disagree : goal.returns-in-Disagree
-returns-in-Disagree c = record {
+pub returns-in-None : goal.returns-in-None
+returns-in-None c = record {
   value = λ added stands.
-      told c.args.self.now.local c.args.reading added (Disagree c.in-Disagree.low c.in-Disagree.high)
-      (c.in-Disagree.ensures.agrees added stands);
+      disagreement-found c.args.self.now c.args.reading added None
+      (subst (λ (k : Kept). IsLocal k.local) c.self.view_is c.self.invariant.local) stands
+      (found-is c.args.reading _ c.args.self.now _ None c.self.view_is c.deref.ensures.value c.in-None.ensures);
 }
 
-pub returns-in-Within : goal.returns-in-Within
-returns-in-Within c = record {
+pub returns-in-Some : goal.returns-in-Some
+returns-in-Some c = record {
   value = λ added stands.
-      told c.args.self.now.local c.args.reading added (Within c.in-Within.field-0)
-      (c.in-Within.ensures.agrees added stands);
-}
-
-pub returns-in-Nothing : goal.returns-in-Nothing
-returns-in-Nothing c = record {
-  value = λ added stands.
-      told c.args.self.now.local c.args.reading added Nothing (c.in-Nothing.ensures.agrees added stands);
+      let r = c.args.reading in
+      let best = c.in-Some.best in
+      c.are_apart.ensures
+      ∙ ap (λ (k : Kept). int_lt (hi k.local best.high r) (lo k.local best.low r)) c.self.view_is
+      ∙ sym (apart-tells _ best.low best.high _)
+      ∙ disagreement-found c.args.self.now r added (Some best)
+      (subst (λ (k : Kept). IsLocal k.local) c.self.view_is c.self.invariant.local) stands
+      (found-is r _ c.args.self.now _ (Some best) c.self.view_is c.deref.ensures.value c.in-Some.ensures);
 }
