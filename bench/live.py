@@ -196,7 +196,8 @@ def rests(port):
     # A run by turns never rests, as every run was before.
     stop(quiet_television(port + 6, ", by turns", "--turns", "1000000"))
     tv = quiet_television(port, "", "--seconds", "3600")
-    for name, words in (("companion", ("--turns", "1000000", "--reports", "1000000")), ("watch", ("--seconds", "3600"))):
+    runs = (("companion", ("--turns", "1000000", "--reports", "1000000")), ("watch", ("--seconds", "3600")))
+    for name, words in runs:
         child = companion(PROGRAM, port, *words, command=name)
         time.sleep(2)
         quiet("a watch" if name == "watch" else "a companion, by turns", child)
